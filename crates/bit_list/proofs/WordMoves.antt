@@ -57,13 +57,13 @@ middle_written at count to part bits aligned inside size e =
     let rest : length (drop (at / 64) to) ≡ length to - at / 64 = length-drop (at / 64) to in
     let many : length part ≡ count = size ∙ ap (λ k. length (take k (drop (at / 64) to))) amount ∙ length-take-le count (drop (at / 64) to) (omega arith) in
     let long : length bits ≡ 64 * count = ap length (sym e) ∙ length_bits_of_words part ∙ ap (λ k. 64 * k) many in
-    let behind : 64 * (at / 64 + count) ≡ at + length bits = omega arith in
+    let after : 64 * (at / 64 + count) ≡ at + length bits = omega arith in
     ap (λ k. bits_of_words (take (at / 64) to ++ (part ++ drop k (drop (at / 64) to)))) amount
     ∙ flat_map-append (low_bits word_size) (take (at / 64) to) (part ++ drop count (drop (at / 64) to))
     ∙ ap (λ z. bits_of_words (take (at / 64) to) ++ z) (flat_map-append (low_bits word_size) part (drop count (drop (at / 64) to)))
     ∙ ap₂ (λ x y. x ++ (bits_of_words part ++ y))
     (sym (take_words (at / 64) to (omega arith)) ∙ ap (λ k. take k (bits_of_words to)) place)
-    (ap bits_of_words (drop-drop count (at / 64) to) ∙ sym (drop_words (at / 64 + count) to (omega arith)) ∙ ap (λ k. drop k (bits_of_words to)) behind)
+    (ap bits_of_words (drop-drop count (at / 64) to) ∙ sym (drop_words (at / 64 + count) to (omega arith)) ∙ ap (λ k. drop k (bits_of_words to)) after)
     ∙ ap (λ z. take at (bits_of_words to) ++ (z ++ drop (at + length bits) (bits_of_words to))) e
     ∙ sym (append_assoc (take at (bits_of_words to)) bits (drop (at + length bits) (bits_of_words to)))
 

@@ -72,13 +72,13 @@ line_read text rest at count earlier later line len rest_is r some within line_i
     let none : (reason : BoardReason) → ¬ HasReasonAt ls count reason =
     λ reason h. none_at (is_skipped line) earlier line later refl leads (sym (ap is_skipped here) ∙ h.not_skipped) reason
     (subst (λ (l : List ℕ). HasReason earlier l reason) here (subst (λ (ds : List Desc). HasReason ds (get_or ls count []) reason) (sym same) h.holds)) in
-    let behind : drop (count + 1) ls ≡ lines (drop (at + len) text) =
+    let after : drop (count + 1) ls ≡ lines (drop (at + len) text) =
     sym (drop-drop 1 count ls) ∙ ap (drop 1) front ∙ ap lines (drop-drop len at text) in
     record {
       within = omega (arith, length-drop at text, ap length rest_is);
       counted = omega (arith, r.counted);
       inside = omega arith;
-      rest = behind;
+      rest = after;
       faultless = below_more (λ (place : ℕ). (reason : BoardReason) → ¬ HasReasonAt ls place reason) count r.faultless none;
       given = leads_at (is_skipped line) earlier line later refl leads ∙ ap (λ (l : List ℕ). devices_after earlier l) (sym here) ∙ ap (λ (ds : List Desc). devices_after ds (get_or ls count [])) same
           ∙ sym (devices_more ls count inside) ∙ ap (λ (k : ℕ). devices_of (take k ls)) (sym (add-one count));

@@ -59,14 +59,14 @@ nil_or_not [] = inl refl
 nil_or_not (x ∷ xs) = inr (λ e. cc)
 
 -- of each element
-all_behind : {X : Type 0} (P : X → Type 0) (x : X) (xs : List X) → All P (x ∷ xs) → All P xs
-all_behind P x xs all k d lt = all (suc k) d (omega arith)
+all_after : {X : Type 0} (P : X → Type 0) (x : X) (xs : List X) → All P (x ∷ xs) → All P xs
+all_after P x xs all k d lt = all (suc k) d (omega arith)
 
 pub all_or_not : {X : Type 0} (P : X → Type 0) → ((x : X) → IsDecided (P x)) → (xs : List X) → IsDecided (All P xs)
 all_or_not P decide [] = inl (All-nil P)
 all_or_not P decide (x ∷ xs) = elim (decide x) [
   | inr n ↦ inr (λ h. n (h 0 x (omega arith)))
-  | inl p ↦ elim (all_or_not P decide xs) [ inl all ↦ inl (All-cons P x xs p all) | inr n ↦ inr (λ h. n (all_behind P x xs h)) ]
+  | inl p ↦ elim (all_or_not P decide xs) [ inl all ↦ inl (All-cons P x xs p all) | inr n ↦ inr (λ h. n (all_after P x xs h)) ]
 ]
 
 any_first : {X : Type 0} (P : X → Type 0) (x : X) (xs : List X) → (P x → ⊥) → (Any P xs → ⊥) → (k : ℕ) (y : X) → k < length (x ∷ xs) → get_or (x ∷ xs) k y ≡ y → P y → ⊥
@@ -90,8 +90,8 @@ contains_or_not xs x = elim (any_or_not (λ (y : ℕ). y ≡ x) (λ y. cases_eq 
 ]
 
 -- of each two
-pairs_behind : {X : Type 0} (R : X → X → Type 0) (x : X) (xs : List X) → AllPairs R (x ∷ xs) → AllPairs R xs
-pairs_behind R x xs all i j d lt inside = all (suc i) (suc j) d (omega arith) (omega arith)
+pairs_after : {X : Type 0} (R : X → X → Type 0) (x : X) (xs : List X) → AllPairs R (x ∷ xs) → AllPairs R xs
+pairs_after R x xs all i j d lt inside = all (suc i) (suc j) d (omega arith) (omega arith)
 
 pairs_first : {X : Type 0} (R : X → X → Type 0) (x : X) (xs : List X) → AllPairs R (x ∷ xs) → All (R x) xs
 pairs_first R x xs all k d lt = all 0 (suc k) d (omega arith) (omega arith)
@@ -100,7 +100,7 @@ pub pairs_or_not : {X : Type 0} (R : X → X → Type 0) → ((x y : X) → IsDe
 pairs_or_not R decide [] = inl (λ i j d lt inside. absurd (omega arith))
 pairs_or_not R decide (x ∷ xs) = elim (all_or_not (R x) (decide x) xs) [
   | inr n ↦ inr (λ h. n (pairs_first R x xs h))
-  | inl first ↦ elim (pairs_or_not R decide xs) [ inl rest ↦ inl (AllPairs-cons R x xs first rest) | inr n ↦ inr (λ h. n (pairs_behind R x xs h)) ]
+  | inl first ↦ elim (pairs_or_not R decide xs) [ inl rest ↦ inl (AllPairs-cons R x xs first rest) | inr n ↦ inr (λ h. n (pairs_after R x xs h)) ]
 ]
 
 pub differs_or_not : (x y : ℕ) → IsDecided (x ≢ y)

@@ -29,8 +29,8 @@ use Rattle.board_text.proofs.Faultless.{AreBegun, IsLast, last_device, more_devi
 
 -- words have the shape that is found
 found_at : {X : Type 0} (b : Bool) (test : X → Bool) (y x : X) (rest : Option X) → test y ≡ b → (rest ≡ Some x → test x ≡ true) → cond b (Some y) rest ≡ Some x → test x ≡ true
-found_at true test y x rest passes behind e = let same : y ≡ x = cc in ap test (sym same) ∙ passes
-found_at false test y x rest passes behind e = behind e
+found_at true test y x rest passes after e = let same : y ≡ x = cc in ap test (sym same) ∙ passes
+found_at false test y x rest passes after e = after e
 
 found : {X : Type 0} (test : X → Bool) (xs : List X) (x : X) → find test xs ≡ Some x → test x ≡ true
 found test [] x e = absurd cc

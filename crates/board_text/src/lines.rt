@@ -68,12 +68,12 @@ pub fn words_of(alloc: Global, line: &[u8]) -> Result<Vec<&[u8]>, AllocError>
     let mut words = Vec::new(alloc);
     let mut rest = line;
     'words: loop {
-        let (word, behind) = first_word(rest);
+        let (word, after) = first_word(rest);
         if word.is_empty() {
             return Ok(words);
         }
         words.push(word)?;
-        rest = behind;
+        rest = after;
     }
 }
 

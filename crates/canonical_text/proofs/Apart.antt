@@ -111,7 +111,7 @@ leans_on_both : (a b : List Printed) → leans a ≡ true → leans b ≡ true �
 leans_on_both [] b p q = q
 leans_on_both (t ∷ a) b p q = p
 
--- what stands behind what may end in a literal leans back
+-- what stands after what may end in a literal leans back
 pub apart_on : (a b : List Printed) (k l m n : Bool) → IsApart a k l → IsApart b m n → (k ≡ true → n ≡ true) → IsApart (a ++ b) (k || m) (l && n)
 apart_on a b k l m n p q h = record {
   stays = stay_on a b p.stays q.stays p.no_mark (λ e. q.first (h (p.last e)));
@@ -314,9 +314,9 @@ separated_apart write t k l o li u lean each [] = weaken [] false true k false (
 separated_apart write t k l o li u lean each (x ∷ []) = weaken (write x) k l k false (λ e. e) (λ e. absurd cc) (each x)
 separated_apart write t k l o li u lean each (x ∷ y ∷ ys) =
     let more = separated_apart write t k l o li u lean each (y ∷ ys) in
-    let behind = apart_on (Seen t ∷ []) (separated_tokens write (Seen t) (y ∷ ys)) false (leans_back (Seen t)) k false (one (Seen t) o li u) more (λ e. absurd cc) in
+    let beyond = apart_on (Seen t ∷ []) (separated_tokens write (Seen t) (y ∷ ys)) false (leans_back (Seen t)) k false (one (Seen t) o li u) more (λ e. absurd cc) in
     let kept : IsApart (Seen t ∷ separated_tokens write (Seen t) (y ∷ ys)) k (leans_back (Seen t)) =
-    record { stays = behind.stays; ordinary = behind.ordinary; no_mark = behind.no_mark; last = behind.last; first = λ e. e } in
+    record { stays = beyond.stays; ordinary = beyond.ordinary; no_mark = beyond.no_mark; last = beyond.last; first = λ e. e } in
     weaken _ (k || k) (l && leans_back (Seen t)) k false (λ e. twice k e) (λ e. absurd cc)
     (apart_on (write x) (Seen t ∷ separated_tokens write (Seen t) (y ∷ ys)) k l k (leans_back (Seen t)) (each x) kept lean)
   where

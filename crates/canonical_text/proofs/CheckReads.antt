@@ -54,8 +54,8 @@ module _ (n : ℕ) where
 
 -- ---- CRC and its digits
 
-no_digit_behind : HasNoDigit kinds.Hex4 []
-no_digit_behind = record { rest = []; blank = blanks_none []; solid = tt; stops = tt }
+no_digit_after : HasNoDigit kinds.Hex4 []
+no_digit_after = record { rest = []; blank = blanks_none []; solid = tt; stops = tt }
 
 digit_solid : (b : ℕ) → is_ascii_hexdigit b ≡ true → (is_white b || b == 39) ≡ false
 digit_solid b e = grind (arith, nat_tests, e)
@@ -69,7 +69,7 @@ digits_read n lt =
     let own = all_hex_digits (low_bits 16 n) in
     let len : length own ≡ 4 = ap length (sym (four n)) ∙ hex_length (low_bits 16 n) 4 in
     let all : list_all is_ascii_hexdigit own ≡ true = all_hex_are_digits (low_bits 16 n) (ap (λ (k : ℕ). k % 4) (length-low_bits 16 n)) in
-    let spaced = spaced_digits kinds.Hex4 own [] all no_digit_behind in
+    let spaced = spaced_digits kinds.Hex4 own [] all no_digit_after in
     record {
       kind = kinds.Hex4;
       some = omega (arith, len);

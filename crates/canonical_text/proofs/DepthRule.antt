@@ -167,8 +167,8 @@ opens_back text tokens are many =
     let first = split_at text tokens many.front (many.run ++ many.rest) many.parts in
     let later = split_at text first.rest many.run many.rest first.rest_is in
     let all = subst (AreSeen text) first.parts are in
-    let behind = subst (AreSeen text) later.parts (seen_right text first.front first.rest all) in
-    let run_seen = seen_left text later.front later.rest behind in
+    let after = subst (AreSeen text) later.parts (seen_right text first.front first.rest all) in
+    let run_seen = seen_left text later.front later.rest after in
     let o = count_seen is_opening text later.front run_seen ∙ ap openings later.front_is in
     let c = count_seen is_closing text later.front run_seen ∙ ap closings later.front_is in
     record {
@@ -244,7 +244,7 @@ no_colon : (t u : Symbol) (s : List Symbol) (b : BodyTree) → Head (t ∷ u ∷
 no_colon t u s b (by_word w r e some is) none colon = clash (is_none (symbol_terminal t)) none (ap (λ (x : Symbol). is_none (symbol_terminal x)) (head_same e) ∙ some)
 no_colon t u s b (by_name v w r e free is) none colon = clash (is_colon (symbol_terminal u)) colon (ap (λ (x : Symbol). is_colon (symbol_terminal x)) (head_same (tail_same e)) ∙ free)
 
--- ---- INTEGER as the first word behind a label
+-- ---- INTEGER as the first word after a label
 
 label_terminal : (a : Token) → is_label_word a ≡ true → is_none a.terminal ≡ true
 label_terminal a e = (and_parts (is_word a.kind) (is_none a.terminal) (and_parts _ (nat_le (a.end - a.start) 32) e).0).1
@@ -265,16 +265,16 @@ begins_integer text (a ∷ c ∷ ts) None b are is e = by (is_label_word a && is
     by false k e = integer_first (symbol_of text a) (symbols_of text (c ∷ ts)) b (head_of _ b is) (ap is_integer are.0 ∙ e)
 begins_integer text (a ∷ c ∷ ts) (Some v) b are is e = by (is_label_word a && is_colon c.terminal) e
   where
-    behind : (us : List Token) → us ≡ ts → begins_with_integer us ≡ true → is_integer_body b ≡ true
-    behind [] same e = absurd cc
-    behind (u ∷ us) same e =
+    after : (us : List Token) → us ≡ ts → begins_with_integer us ≡ true → is_integer_body b ≡ true
+    after [] same e = absurd cc
+    after (u ∷ us) same e =
         let rest : symbols_of text (u ∷ us) ≡ is.0 = ap (symbols_of text) same ∙ tail_same (tail_same is.1) in
         let seen_u : AreSeen text (u ∷ us) = subst (AreSeen text) (sym same) are.1.1 in
         integer_first (symbol_of text u) (symbols_of text us) b (head_of (symbol_of text u ∷ symbols_of text us) b (subst (λ (x : List Symbol). IsBody x b) (sym rest) is.3))
         (ap is_integer seen_u.0 ∙ e)
 
     by : (k : Bool) → begins_with_integer (cond k ts (a ∷ c ∷ ts)) ≡ true → is_integer_body b ≡ true
-    by true e = behind ts refl e
+    by true e = after ts refl e
     by false e = clash (is_integer a.terminal) e (ap is_integer (sym are.0) ∙ ap (λ (x : Symbol). is_integer (symbol_terminal x)) (head_same is.1))
 
 -- the other way round for what is printed
@@ -314,7 +314,7 @@ or_parts : (a b : Bool) → (a || b) ≡ false → (a ≡ false) × (b ≡ false
 or_parts false b e = (refl, e)
 or_parts true b e = absurd cc
 
--- an INTEGER declaration is printed with its word first, behind the label
+-- an INTEGER declaration is printed with its word first, after the label
 printed_integer : (text : List ℕ) (tokens : List Token) (label : Option (List ℕ)) (b : BodyTree) (r : List Symbol) → AreSeen text tokens →
     list_any is_long_word tokens ≡ false → symbols_of text tokens ≡ symbols (label_tokens label) ++ (inner inner_words.Integer ∷ r) → begins_with_integer (after_label tokens) ≡ true
 unfolding symbol_terminal sign_terminal is_integer is_colon

@@ -12,7 +12,7 @@ abbrev pub lower : ℕ → ℕ
 lower zero = zero
 lower (suc h) = h
 
--- how many are open behind a symbol
+-- how many are open after a symbol
 abbrev pub height : ℕ → Symbol → ℕ
 height h t = if opens t then suc h else if closes t then lower h else h
 
@@ -25,15 +25,15 @@ pub walk_on : (d h m k : ℕ) (a b : List Symbol) → Walk d h a m → Walk d m 
 walk_on d h m k [] b w v = subst (λ (j : ℕ). Walk d j b k) (sym w) v
 walk_on d h m k (t ∷ a) b w v = (w.0, w.1, walk_on d (height h t) m k a b w.2 v)
 
--- the walk behind a front
+-- the walk after a front
 record Behind (d : ℕ) (s : List Symbol) (k : ℕ) : Type 0 where
   from : ℕ
   within : from ≤ d
   walk : Walk d from s k
 
-behind : (d h k : ℕ) (a b : List Symbol) → h ≤ d → Walk d h (a ++ b) k → Behind d b k
-behind d h k [] b le w = record { from = h; within = le; walk = w }
-behind d h k (t ∷ a) b le w = behind d (height h t) k a b w.1 w.2
+after : (d h k : ℕ) (a b : List Symbol) → h ≤ d → Walk d h (a ++ b) k → Behind d b k
+after d h k [] b le w = record { from = h; within = le; walk = w }
+after d h k (t ∷ a) b le w = after d (height h t) k a b w.1 w.2
 
 one_step : (o c : Bool) (d h a b : ℕ) → (c ≡ true → 0 < h) → a + (if o then suc h else if c then lower h else h) ≤ b + d →
     one_if o + a + h ≤ one_if c + b + d
@@ -52,7 +52,7 @@ run_bound d h k (t ∷ run) rest le w =
 -- then the walk goes above 32
 pub goes_high : (d k : ℕ) (s : List Symbol) → Walk d 0 s k → OpensMany s → 32 < d
 goes_high d k s w many =
-    let later = behind d 0 k many.front (many.run ++ many.rest) (omega arith) (subst (λ (v : List Symbol). Walk d 0 v k) many.parts w) in
+    let later = after d 0 k many.front (many.run ++ many.rest) (omega arith) (subst (λ (v : List Symbol). Walk d 0 v k) many.parts w) in
     let bound = run_bound d later.from k many.run many.rest later.within later.walk in
     omega (arith, bound, many.deep)
 
@@ -107,7 +107,7 @@ reaches_both d e a b even r q = elim (cases_lt d e) [
   | inr le ↦ reaches_less (max d e) d (a ++ b) (omega arith) (reaches_left d a b r)
 ]
 
--- behind one more opening bracket
+-- after one more opening bracket
 pub reaches_in : (d : ℕ) (t : Symbol) (s : List Symbol) → opens t ≡ true → closes t ≡ false → Reaches d s → Reaches (suc d) (t ∷ s)
 reaches_in d t s o c r = record {
   front = t ∷ r.front;
@@ -116,7 +116,7 @@ reaches_in d t s o c r = record {
   height = omega (arith, ap one_if o, ap one_if c, r.height);
 }
 
--- behind a symbol that is no bracket
+-- after a symbol that is no bracket
 pub reaches_past : (d : ℕ) (t : Symbol) (s : List Symbol) → opens t ≡ false → closes t ≡ false → Reaches d s → Reaches d (t ∷ s)
 reaches_past d t s o c r = record {
   front = t ∷ r.front;

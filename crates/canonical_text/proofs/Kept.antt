@@ -18,7 +18,7 @@ use Rattle.stapl_syntax.specs.Trees.{ExprTree, ArrayTree, PartTree, ExportTree, 
 use Rattle.stapl_syntax.specs.Trees.{boolean, boolean_array, integer, integer_array, assign, assign_element, assign_array, assign_range, call, goto, if_then}
 use Rattle.stapl_syntax.specs.Trees.{for_loop, next, push, pop, print, export, exit, scan, stop, pad, state_list, wait_cycles, wait_usec, frequency, StmtTree}
 use Rattle.stapl_syntax.specs.Parts.{IsSigned, IsBit, zero_bit, one_bit, IsChoice, optional_item, recommended_item, IsPrintPart, of_string, of_value}
-use Rattle.stapl_syntax.specs.Parts.{of_character, IsExported, of_exported_value, of_exported_array, AreStates, one_state, more_states, more_behind_comma}
+use Rattle.stapl_syntax.specs.Parts.{of_character, IsExported, of_exported_value, of_exported_array, AreStates, one_state, more_states, more_after_comma}
 use Rattle.stapl_syntax.specs.Parts.{Part, a_name, a_state, a_number, a_signed, a_bit, a_text, a_literal, a_check_word, a_choice, an_expr, an_array, a_cell}
 use Rattle.stapl_syntax.specs.Parts.{a_target, a_print_part, an_export, some_states, after, before, maybe_hz, both, maybe, either, listed, Separated, IsPart}
 use Rattle.stapl_syntax.specs.Parts.{hz, comma, equals, join, note_part, action_part, procedure_part, size_part, bit_part, bits_part, signed_part}
@@ -154,7 +154,7 @@ module _ (f : Symbol → Bool) (out : LeavesOut f) (R : ℕ → ℕ → Type 0) 
   states_kept : (s : List Symbol) (ks : List ℕ) → AreStates s ks → R (weight f (symbols (states_tokens ks))) (weight f s)
   states_kept _ _ one_state = same _
   states_kept _ _ (more_states {k = k} {s = s} {ks = ks} d) = more_kept k ks s s refl (states_kept s ks d)
-  states_kept _ _ (more_behind_comma {k = k} {s = s} {ks = ks} d) = more_kept k ks s (comma ∷ s) (omega (arith, no_comma)) (states_kept s ks d)
+  states_kept _ _ (more_after_comma {k = k} {s = s} {ks = ks} d) = more_kept k ks s (comma ∷ s) (omega (arith, no_comma)) (states_kept s ks d)
 
   separated_kept : {A : Type 0} (P : A → List Symbol → Type 0) (write : A → List Printed) (t : Symbol) →
       ((x : A) (s : List Symbol) → P x s → R (weight f (symbols (write x))) (weight f s)) →

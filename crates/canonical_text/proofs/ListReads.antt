@@ -21,7 +21,7 @@ use Rattle.canonical_text.proofs.Words.{printed_name}
 use Rattle.canonical_text.proofs.Reading.{Reads}
 use Rattle.canonical_text.proofs.TokenReads.{is_crc, is_quiet, is_shut, may_stand, held_value, first_digit, blanks_none, token_reads}
 
--- nothing may stand behind an ordinary token
+-- nothing may stand after an ordinary token
 nothing_stands : (t : Printed) → is_ordinary t ≡ true → may_stand t 0 ≡ true
 unfolding may_stand is_ordinary
 nothing_stands (Seen (Plain (signs.Mark marks.LeftRound))) other = refl
@@ -88,7 +88,7 @@ operand_first (UnaryMark Complement) spells e = refl
 operand_first (UnaryMark Not) spells e = refl
 operand_first _ spells e = absurd cc
 
--- ---- what stands behind a token
+-- ---- what stands after a token
 
 -- a space
 space_stands : (t : Printed) → is_ordinary t ≡ true → leans_on t ≡ false → (next : Printed) → leans_back next ≡ false → stays_apart t next ≡ true → may_stand t 32 ≡ true
@@ -126,9 +126,9 @@ next_stands (Seen (Literal bits)) next spells touch apart = leaning_first next a
 next_stands (UnaryMark op) next spells touch apart = operand_first next spells apart
 next_stands _ next spells touch apart = shut_quiet (slice_index (spelling next) 0) (leaning_first next (alone (leans_back next) touch))
 
-behind_stands : (t next : Printed) (ts : List Printed) → is_spellable (seen next) ≡ true → is_ordinary next ≡ true → is_ordinary t ≡ true → stays_apart t next ≡ true →
+after_stands : (t next : Printed) (ts : List Printed) → is_spellable (seen next) ≡ true → is_ordinary next ≡ true → is_ordinary t ≡ true → stays_apart t next ≡ true →
     may_stand t (slice_index (gap t next ++ spaced (next ∷ ts)) 0) ≡ true
-behind_stands t next ts spells other own apart = by (leans_on t) (leans_back next) (is_function t && is_left_round next) refl refl refl
+after_stands t next ts spells other own apart = by (leans_on t) (leans_back next) (is_function t && is_left_round next) refl refl refl
   where
     touching : touches t next ≡ true → may_stand t (slice_index (spaced (next ∷ ts)) 0) ≡ true
     touching touch = ap (may_stand t) (spaced_first next ts (some_byte next spells other)) ∙ next_stands t next spells touch apart
@@ -183,14 +183,14 @@ list_reads first blank (t ∷ next ∷ ts) free blanks spell other apart =
     let spells = and_parts (is_spellable (seen t)) (list_all (λ t. is_spellable (seen t)) (next ∷ ts)) spell in
     let own = and_parts (is_ordinary t) (list_all is_ordinary (next ∷ ts)) other in
     let aparts = and_parts (stays_apart t next) (stay_apart (next ∷ ts)) apart in
-    let behind = gap t next ++ spaced (next ∷ ts) in
-    let read = token_reads first t behind free spells.0 own.0
-    (behind_stands t next ts (and_parts (is_spellable (seen next)) _ spells.1).0 (and_parts (is_ordinary next) _ own.1).0 own.0 aparts.0) in (
+    let after = gap t next ++ spaced (next ∷ ts) in
+    let read = token_reads first t after free spells.0 own.0
+    (after_stands t next ts (and_parts (is_spellable (seen next)) _ spells.1).0 (and_parts (is_ordinary next) _ own.1).0 own.0 aparts.0) in (
       blank,
       spelling t,
-      behind,
+      after,
       refl,
-      blanks (spelling t ++ behind),
+      blanks (spelling t ++ after),
       read.read,
       list_reads (first_word first read.read.kind (spelling t)) (gap t next) (next ∷ ts) read.goes_on (gap_blank t next) spells.1 own.1 aparts.1,
     )

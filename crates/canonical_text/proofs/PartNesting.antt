@@ -16,7 +16,7 @@ use Rattle.stapl_syntax.specs.Expressions.{function, left_round, right_round}
 use Rattle.stapl_syntax.specs.Trees.{PartTree, string, value, character, ExportTree, exported_value, exported_array}
 use Rattle.stapl_syntax.specs.Parts.{IsSigned, unsigned, minus, IsBit, zero_bit, one_bit, IsChoice, optional_item, recommended_item, IsPrintPart, of_string}
 use Rattle.stapl_syntax.specs.Parts.{of_value, of_character, IsExported, of_exported_value, of_exported_array, AreStates, one_state, more_states}
-use Rattle.stapl_syntax.specs.Parts.{more_behind_comma, Part, a_name, a_state, a_number, a_signed, a_bit, a_text, a_literal, a_check_word, a_choice, an_expr}
+use Rattle.stapl_syntax.specs.Parts.{more_after_comma, Part, a_name, a_state, a_number, a_signed, a_bit, a_text, a_literal, a_check_word, a_choice, an_expr}
 use Rattle.stapl_syntax.specs.Parts.{an_array, a_cell, a_target, a_print_part, an_export, some_states, after, before, maybe_hz, both, maybe, either, listed}
 use Rattle.stapl_syntax.specs.Parts.{Separated, IsPart, hz}
 use Rattle.canonical_text.specs.PrintedTokens.{Printed, Seen, seen, unary_symbol}
@@ -36,7 +36,7 @@ abbrev pub export_depth : ExportTree → ℕ
 export_depth (exported_value e) = expr_depth 10 e
 export_depth (exported_array a) = array_depth a
 
--- how many brackets are open behind a part, if so many are open before it
+-- how many brackets are open after a part, if so many are open before it
 abbrev pub part_end : {A : Type 0} → ℕ → Part A → ℕ
 part_end h (after t p) = part_end (height h t) p
 part_end h (before p t) = height (part_end h p) t
@@ -322,7 +322,7 @@ states_even : {s : List Symbol} {ks : List ℕ} → AreStates s ks → openings 
 unfolding symbol_terminal sign_terminal is_opening is_closing
 states_even one_state = refl
 states_even (more_states d) = omega (arith, states_even d)
-states_even (more_behind_comma d) = omega (arith, states_even d)
+states_even (more_after_comma d) = omega (arith, states_even d)
 
 print_part_nests : (s : List Symbol) (x : PartTree) → IsPrintPart s x → Nests (print_part_depth x) s
 unfolding symbol_terminal sign_terminal is_opening is_closing

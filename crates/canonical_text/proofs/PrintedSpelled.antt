@@ -118,8 +118,8 @@ none_left a b s e z = omega (arith, ap (weight unspelled) e, weight-append unspe
 none_right : (a b : List Symbol) (s : List Symbol) → s ≡ a ++ b → weight unspelled s ≡ 0 → weight unspelled b ≡ 0
 none_right a b s e z = omega (arith, ap (weight unspelled) e, weight-append unspelled a b, z)
 
-none_behind : (t : Symbol) (r s : List Symbol) → s ≡ t ∷ r → weight unspelled s ≡ 0 → weight unspelled r ≡ 0
-none_behind t r s e z = omega (arith, ap (weight unspelled) e, z)
+none_after : (t : Symbol) (r s : List Symbol) → s ≡ t ∷ r → weight unspelled s ≡ 0 → weight unspelled r ≡ 0
+none_after t r s e z = omega (arith, ap (weight unspelled) e, z)
 
 separated_held : {A : Type 0} (P : A → List Symbol → Type 0) (Q : A → Type 0) (t : Symbol) → ((x : A) (s : List Symbol) → P x s → weight unspelled s ≡ 0 → Q x) →
     (xs : List A) (s : List Symbol) → Separated P t xs s → weight unspelled s ≡ 0 → AllByRecursion Q xs
@@ -127,12 +127,12 @@ separated_held P Q t each [] s is z = tt
 separated_held P Q t each (x ∷ []) s is z = (each x s is z, tt)
 separated_held P Q t each (x ∷ y ∷ ys) s is z = (
   each x is.0 is.3 (none_left is.0 (t ∷ is.1) s is.2 z),
-  separated_held P Q t each (y ∷ ys) is.1 is.4 (none_behind t is.1 (t ∷ is.1) refl (none_right is.0 (t ∷ is.1) s is.2 z)),
+  separated_held P Q t each (y ∷ ys) is.1 is.4 (none_after t is.1 (t ∷ is.1) refl (none_right is.0 (t ∷ is.1) s is.2 z)),
 )
 
 part_held : {A : Type 0} (p : Part A) (x : A) (s : List Symbol) → IsPart p x s → weight unspelled s ≡ 0 → HoldsValues p x
 part_held a_signed x s is z = signed_fits is z
-part_held (after t p) x s is z = part_held p x is.0 is.2 (none_behind t is.0 s is.1 z)
+part_held (after t p) x s is z = part_held p x is.0 is.2 (none_after t is.0 s is.1 z)
 part_held (before p t) x s is z = part_held p x is.0 is.2 (none_left is.0 (t ∷ []) s is.1 z)
 part_held (maybe_hz p) x s (inl is) z = part_held p x s is z
 part_held (maybe_hz p) x s (inr is) z = part_held p x is.0 is.2 (none_left is.0 (hz ∷ []) s is.1 z)
@@ -157,12 +157,12 @@ body_held s (integer v start) is z = start_held start v (part_held (after (inner
 body_held s (integer_array v n start) is z =
     starts_held start v n (part_held (after (inner inner_words.Integer) (both a_name (both size_part signed_list_part))) (v, (n, start)) s is z).1.1
 body_held s (if_then e b) is z =
-    body_held is.1 b is.6 (none_behind _ is.1 _ refl (none_right is.0 _ _ refl (none_behind _ _ s is.2 z)))
+    body_held is.1 b is.6 (none_after _ is.1 _ refl (none_right is.0 _ _ refl (none_after _ _ s is.2 z)))
 body_held s _ is z = tt
 
 labelled_held : (s : List Symbol) (label : Option (List ℕ)) (b : BodyTree) → IsLabelled s label b → weight unspelled s ≡ 0 → HoldsInitialValues b
 labelled_held s None b is z = body_held s b is z
-labelled_held s (Some v) b is z = body_held is.0 b is.3 (none_behind _ is.0 _ refl (none_behind _ _ s is.1 z))
+labelled_held s (Some v) b is z = body_held is.0 b is.3 (none_after _ is.0 _ refl (none_after _ _ s is.1 z))
 
 pub holds_initial_values : (s : List Symbol) (st : StmtTree) → Means s st → list_all is_spellable s ≡ true → HoldsInitialValues st.body
 holds_initial_values s st is all = labelled_held s st.label st.body is (none_unspelled s all)

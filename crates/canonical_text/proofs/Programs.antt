@@ -12,7 +12,7 @@ use Rattle.stapl_lexer.specs.declared.reason.Reason.TheVariants as reasons
 use Rattle.stapl_lexer.specs.Crc.{check_word}
 use Rattle.stapl_lexer.specs.Pieces.{pieces_from, text_limit}
 use Rattle.stapl_grammar.proofs.LawLemmas.{no_reason, one_piece_statement}
-use Rattle.stapl_syntax.specs.Names.{Numbered, numbered_from, numbered, inside_behind, inside_from, inside_after, declared_from, block_of, action_of}
+use Rattle.stapl_syntax.specs.Names.{Numbered, numbered_from, numbered, inside_next, inside_from, inside_after, declared_from, block_of, action_of}
 use Rattle.stapl_syntax.specs.Names.{variable_of, label_of, Names, names_of, firsts, key_eq}
 use Rattle.stapl_syntax.specs.Programs.{AreReadAs, facts_at, HasReasonAt, one_too_many, no_statement, breaks_rule, not_closed, nothing_to_do, IsProgram}
 use Rattle.stapl_syntax.specs.Reasons.{HasReason}
@@ -93,7 +93,7 @@ plain_checked before (st ∷ sts) =
     ap (λ (b : BodyTree). record { label = st.label; body = b } ∷ map plain (checked_from (before ++ line (checked before st)) sts)) (plain_checked_body before st.body)
     ∙ ap (λ (v : List StmtTree). plain st ∷ v) (plain_checked (before ++ line (checked before st)) sts)
 
-inside_plain : (now : Option (List ℕ)) (body : BodyTree) → inside_behind now (plain_body body) ≡ inside_behind now body
+inside_plain : (now : Option (List ℕ)) (body : BodyTree) → inside_next now (plain_body body) ≡ inside_next now body
 inside_plain now (crc n) = refl
 inside_plain now _ = refl
 
@@ -103,14 +103,14 @@ module _ {K V : Type 0} (declares : Option (List ℕ) → ℕ → StmtTree → O
       declared_from declares now (numbered_from n (map Some (map plain sts))) ≡ declared_from declares now (numbered_from n (map Some sts))
   declared_plain now n [] = refl
   declared_plain now n (st ∷ sts) =
-      ap (λ (o : Option (K × V)). cons_option o (declared_from declares (inside_behind now (plain_body st.body)) (numbered_from (n + 1) (map Some (map plain sts))))) (same now n st)
+      ap (λ (o : Option (K × V)). cons_option o (declared_from declares (inside_next now (plain_body st.body)) (numbered_from (n + 1) (map Some (map plain sts))))) (same now n st)
       ∙ ap (λ (i : Option (List ℕ)). cons_option (declares now n st) (declared_from declares i (numbered_from (n + 1) (map Some (map plain sts))))) (inside_plain now st.body)
-      ∙ ap (cons_option (declares now n st)) (declared_plain (inside_behind now st.body) (n + 1) sts)
+      ∙ ap (cons_option (declares now n st)) (declared_plain (inside_next now st.body) (n + 1) sts)
 
 pub inside_from_plain : (now : Option (List ℕ)) (n : ℕ) (sts : List StmtTree) → inside_from now (numbered_from n (map Some (map plain sts))) ≡ inside_from now (numbered_from n (map Some sts))
 inside_from_plain now n [] = refl
 inside_from_plain now n (st ∷ sts) =
-    ap (λ (i : Option (List ℕ)). inside_from i (numbered_from (n + 1) (map Some (map plain sts)))) (inside_plain now st.body) ∙ inside_from_plain (inside_behind now st.body) (n + 1) sts
+    ap (λ (i : Option (List ℕ)). inside_from i (numbered_from (n + 1) (map Some (map plain sts)))) (inside_plain now st.body) ∙ inside_from_plain (inside_next now st.body) (n + 1) sts
 
 any_plain : (test : BodyTree → Bool) → ((body : BodyTree) → test (plain_body body) ≡ test body) → (n : ℕ) (sts : List StmtTree) →
     any_body test (numbered_from n (map Some (map plain sts))) ≡ any_body test (numbered_from n (map Some sts))

@@ -90,7 +90,7 @@ chr_is_reserved own e =
     (list_any-append (λ row. spells_word row.0 own) (take 21 reserved_words) (drop 21 reserved_words)
     ∙ or_right (list_any (λ row. spells_word row.0 own) (take 21 reserved_words)) (list_any (λ row. spells_word row.0 own) (drop 21 reserved_words)) (or_true (spells_word (codes "CHR$") own) _ e))
 
--- the letters of CHR with `$` behind them
+-- the letters of CHR with `$` after them
 not_one : {P : Type 0} (x : Bool) → (x && false) ≡ true → P
 not_one true e = absurd cc
 not_one false e = absurd cc
@@ -146,18 +146,18 @@ some_none : {P : Type 0} (o : Option Terminal) → is_some o ≡ true → o ≡ 
 some_none o e f = let g = ap is_some f in absurd cc
 
 -- a word that is no terminal consists of bytes of names
-free_bytes : (own name tail behind : List ℕ) → own ≡ name ++ tail → list_all is_name_byte name ≡ true → IsWordTail name tail behind → word_terminal own ≡ None →
+free_bytes : (own name tail after : List ℕ) → own ≡ name ++ tail → list_all is_name_byte name ≡ true → IsWordTail name tail after → word_terminal own ≡ None →
     list_all is_name_byte own ≡ true
-free_bytes own name [] behind parts bytes ends none = ap (list_all is_name_byte) (parts ∙ append-nil name) ∙ bytes
-free_bytes own name (b ∷ bs) behind parts bytes ends none =
+free_bytes own name [] after parts bytes ends none = ap (list_all is_name_byte) (parts ∙ append-nil name) ∙ bytes
+free_bytes own name (b ∷ bs) after parts bytes ends none =
     some_none (word_terminal own)
     (chr_is_reserved own (ap (spells_word (codes "CHR$")) (parts ∙ ap (λ (v : List ℕ). name ++ v) ends.0) ∙ chr_dollar name ends.1)) none
 
-module _ (own behind : List ℕ) (alpha : is_ascii_alphabetic (slice_index own 0) ≡ true) (is : IsWord own behind) (short : nat_lt 32 (length own) ≡ false) where
+module _ (own after : List ℕ) (alpha : is_ascii_alphabetic (slice_index own 0) ≡ true) (is : IsWord own after) (short : nat_lt 32 (length own) ≡ false) where
   named : word_terminal own ≡ None → is_name own ≡ true
   named none =
       both_true _ (nat_le (length own) 32)
-      (both_true (is_ascii_alphabetic (slice_index own 0)) (list_all is_name_byte own) alpha (free_bytes own is.name is.tail behind is.parts is.name_bytes is.ends none))
+      (both_true (is_ascii_alphabetic (slice_index own 0)) (list_all is_name_byte own) alpha (free_bytes own is.name is.tail after is.parts is.name_bytes is.ends none))
       (not_longer (length own) short)
 
   free_is_printed : word_terminal own ≡ None → is_printed_name (str_to_ascii_uppercase own) ≡ true
@@ -195,11 +195,11 @@ held_value_of n = by (nat_le n 2147483648) refl
     by true e = held_cast n (leb-true n 2147483648 e)
     by false e = refl
 
-closed_string : (s : Segment) (own behind : List ℕ) → own ≡ spelled s → IsSegment s behind → true ≡ is_closed s → list_all (λ b. not (ends_string b)) (string_inside own) ≡ true
-closed_string (Closed bytes) own behind e valid good = ap (λ (v : List ℕ). list_all (λ b. not (ends_string b)) (string_inside v)) e ∙ ap (list_all (λ b. not (ends_string b))) (inside_is bytes) ∙ valid
-closed_string (PlainByte b) own behind e valid good = absurd cc
-closed_string (Open bytes) own behind e valid good = absurd cc
-closed_string (Comment bytes) own behind e valid good = absurd cc
+closed_string : (s : Segment) (own after : List ℕ) → own ≡ spelled s → IsSegment s after → true ≡ is_closed s → list_all (λ b. not (ends_string b)) (string_inside own) ≡ true
+closed_string (Closed bytes) own after e valid good = ap (λ (v : List ℕ). list_all (λ b. not (ends_string b)) (string_inside v)) e ∙ ap (list_all (λ b. not (ends_string b))) (inside_is bytes) ∙ valid
+closed_string (PlainByte b) own after e valid good = absurd cc
+closed_string (Open bytes) own after e valid good = absurd cc
+closed_string (Comment bytes) own after e valid good = absurd cc
 
 mark_ok : (own : List ℕ) (terminal : Option Terminal) → terminal ≡ mark_terminal own → true ≡ is_mark_spelling own → is_spellable_sign (mark_sign terminal) ≡ true
 mark_ok own (Some t) e good = mark_spellable own t (sym e)
@@ -215,18 +215,18 @@ small_check n = below (n % 65536) (omega arith)
     below n lt = grind (arith, nat_tests)
 
 -- what is seen of a good token
-token_ok : (first : Option Bool) (kind : TokenKind) (z : ℤ) (terminal : Option Terminal) (own behind : List ℕ) → kind ≡ kind_at first (slice_index own 0) → Spells kind true own behind →
+token_ok : (first : Option Bool) (kind : TokenKind) (z : ℤ) (terminal : Option Terminal) (own after : List ℕ) → kind ≡ kind_at first (slice_index own 0) → Spells kind true own after →
     z ≡ value_of kind own → terminal ≡ terminal_of kind own → (is_word kind && nat_lt 32 (length own)) ≡ false → is_left_out (sign_of (symbol_as kind z terminal own)) ≡ false →
     is_spellable (symbol_as kind z terminal own) ≡ true
 unfolding is_spellable is_spellable_sign
-token_ok first kinds.Word z terminal own behind k spells v t short left =
-    word_ok own behind (kind_alpha first (slice_index own 0) k) spells.0 short terminal t left
-token_ok first kinds.Number z terminal own behind k spells v t short left = ap is_held v ∙ held_value_of (number_value own)
-token_ok first kinds.Text z terminal own behind k spells v t short left = closed_string spells.0 own behind spells.1 spells.2 spells.3
-token_ok first kinds.Binary z terminal own behind k spells v t short left = some_bits _ (binary_bits own behind (length own) (omega arith) spells).some
-token_ok first kinds.Hexadecimal z terminal own behind k spells v t short left = some_bits _ (hex_bits own behind (length own) (omega arith) spells).some
-token_ok first kinds.Mark z terminal own behind k spells v t short left = mark_ok own terminal t spells.1
-token_ok first kinds.Hex4 z terminal own behind k spells v t short left = small_check _
+token_ok first kinds.Word z terminal own after k spells v t short left =
+    word_ok own after (kind_alpha first (slice_index own 0) k) spells.0 short terminal t left
+token_ok first kinds.Number z terminal own after k spells v t short left = ap is_held v ∙ held_value_of (number_value own)
+token_ok first kinds.Text z terminal own after k spells v t short left = closed_string spells.0 own after spells.1 spells.2 spells.3
+token_ok first kinds.Binary z terminal own after k spells v t short left = some_bits _ (binary_bits own after (length own) (omega arith) spells).some
+token_ok first kinds.Hexadecimal z terminal own after k spells v t short left = some_bits _ (hex_bits own after (length own) (omega arith) spells).some
+token_ok first kinds.Mark z terminal own after k spells v t short left = mark_ok own terminal t spells.1
+token_ok first kinds.Hex4 z terminal own after k spells v t short left = small_check _
 
 or_parts : (a b : Bool) → (a || b) ≡ false → (a ≡ false) × (b ≡ false)
 or_parts false b e = (refl, e)

@@ -21,7 +21,7 @@ use Rattle.stapl_syntax.specs.Trees.{integer_array, assign, assign_element, assi
 use Rattle.stapl_syntax.specs.Trees.{export, exit, scan, stop, pad, state_list, wait_cycles, wait_usec, frequency, StmtTree}
 use Rattle.stapl_syntax.specs.Expressions.{function, name, left_round, right_round, left_square, right_square, dots, IsCell, of_scalar, of_element, IsTarget, of_whole, of_range}
 use Rattle.stapl_syntax.specs.Parts.{IsSigned, unsigned, minus, IsBit, zero_bit, one_bit, IsChoice, optional_item, recommended_item, IsPrintPart, of_string}
-use Rattle.stapl_syntax.specs.Parts.{of_value, of_character, IsExported, of_exported_value, of_exported_array, AreStates, one_state, more_behind_comma, Part}
+use Rattle.stapl_syntax.specs.Parts.{of_value, of_character, IsExported, of_exported_value, of_exported_array, AreStates, one_state, more_after_comma, Part}
 use Rattle.stapl_syntax.specs.Parts.{a_name, a_state, a_number, a_signed, a_bit, a_text, a_literal, a_check_word, a_choice, an_expr, an_array, a_cell}
 use Rattle.stapl_syntax.specs.Parts.{a_target, a_print_part, an_export, some_states, after, before, maybe_hz, both, maybe, either, listed, Separated, IsPart}
 use Rattle.stapl_syntax.specs.Parts.{hz, equals, join, note_part, action_part, procedure_part, size_part, bit_part, bits_part, signed_part, signed_list_part}
@@ -90,11 +90,11 @@ states_are s [] d = none d
     none : {s : List Symbol} → AreStates s [] → AreStates (symbols (states_tokens [])) []
     none d = elim d [ ]
 states_are s (k ∷ []) d = one_state
-states_are s (k ∷ j ∷ ks) d = more_behind_comma (later j ks)
+states_are s (k ∷ j ∷ ks) d = more_after_comma (later j ks)
   where
     later : (j : ℕ) (ks : List ℕ) → AreStates (symbols (states_tokens (j ∷ ks))) (j ∷ ks)
     later j [] = one_state
-    later j (i ∷ ks) = more_behind_comma (later i ks)
+    later j (i ∷ ks) = more_after_comma (later i ks)
 
 separated_are : {A : Type 0} (P : A → List Symbol → Type 0) (Q : A → Type 0) (write : A → List Printed) (t : Symbol) →
     ((x : A) (s : List Symbol) → P x s → Q x → P x (symbols (write x))) →

@@ -1,4 +1,4 @@
--- Each printed token is read back, where the byte behind it does not go on with it.
+-- Each printed token is read back, where the byte after it does not go on with it.
 use Rattle.std.proofs.Common.{◌≡◌, ◌≢◌, ℕ, ℤ, pos, negsuc, ◌+◌, ◌-◌, ◌*◌, ◌^◌, ◌%◌, ◌<◌, ◌≤◌, ◌==◌, ◌&&◌, ◌||◌, Bool, true, false, List, [], ◌∷◌, ◌++◌, length}
 use Rattle.std.proofs.Common.{take, drop, slice_index, Option, Some, None, inl, inr, refl, sym, ap, subst, ◌∙◌, arith, append-nil}
 use Rattle.std.specs.Prelude.{nat_lt, nat_le, nat_abs, not, codes, if◌then◌else◌}
@@ -48,7 +48,7 @@ use Rattle.canonical_text.proofs.Digits.{all_hex_back, all_hex_are_digits, neede
 use Rattle.canonical_text.proofs.Words.{IsWordOf, outer_word, inner_word, simple_word, port_word, join_word, if_word, abs_word, bool_word, int_word, state_word, name_word}
 use Rattle.canonical_text.proofs.Reading.{IsRead}
 
--- ---- the byte behind a token
+-- ---- the byte after a token
 
 -- nothing, a space, or a mark before which no space stands
 abbrev pub is_quiet : ℕ → Bool
@@ -112,8 +112,8 @@ word_goes_on None own e free = free
 word_goes_on (Some b) own e free = e
 
 -- a token that is read, and whose piece still has not CRC for its first word
-pub record IsReadOn (first : Option Bool) (own behind : List ℕ) (t : Symbol) : Type 0 where
-  pub read : IsRead first own behind t
+pub record IsReadOn (first : Option Bool) (own after : List ℕ) (t : Symbol) : Type 0 where
+  pub read : IsRead first own after t
   pub goes_on : is_crc (first_word first read.kind own) ≡ false
 
 -- ---- words
@@ -128,9 +128,9 @@ alpha_solid b e = grind (arith, nat_tests, e)
 alpha_kind : (b : ℕ) → is_ascii_alphabetic b ≡ true → kind_of b ≡ kinds.Word
 alpha_kind b e = rw e refl
 
-word_reads : (first : Option Bool) (own behind : List ℕ) (sign : Sign) → is_crc first ≡ false → IsWordOf own sign → is_quiet (slice_index behind 0) ≡ true →
-    IsReadOn first own behind (Plain sign)
-word_reads first own behind sign free is quiet =
+word_reads : (first : Option Bool) (own after : List ℕ) (sign : Sign) → is_crc first ≡ false → IsWordOf own sign → is_quiet (slice_index after 0) ≡ true →
+    IsReadOn first own after (Plain sign)
+word_reads first own after sign free is quiet =
     let all = and_parts (is_ascii_alphabetic (slice_index own 0) && list_all is_name_byte own && not (nat_lt 32 (length own))) (not (spells_word (codes "CRC") own)) is.spelled in
     let most = and_parts (is_ascii_alphabetic (slice_index own 0) && list_all is_name_byte own) (not (nat_lt 32 (length own))) all.0 in
     let front = and_parts (is_ascii_alphabetic (slice_index own 0)) (list_all is_name_byte own) most.0 in
@@ -147,8 +147,8 @@ word_reads first own behind sign free is quiet =
             parts = sym (append-nil own);
             name_bytes = front.1;
             ends = (
-              starts_without is_name_byte behind (quiet_no_name (slice_index behind 0) quiet),
-              and_false (spells_word (codes "CHR") own) (slice_index behind 0 == 36) (quiet_no_dollar (slice_index behind 0) quiet),
+              starts_without is_name_byte after (quiet_no_name (slice_index after 0) quiet),
+              and_false (spells_word (codes "CHR") own) (slice_index after 0 == 36) (quiet_no_dollar (slice_index after 0) quiet),
             );
           },
           refl,
@@ -175,10 +175,10 @@ other_goes_on (Some b) kinds.Mark own e w = e
 other_goes_on None kinds.Hex4 own e w = refl
 other_goes_on (Some b) kinds.Hex4 own e w = e
 
--- CHR$, whatever stands behind it
-chr_reads : (first : Option Bool) (behind : List ℕ) → is_crc first ≡ false → IsReadOn first (codes "CHR$") behind (Plain (signs.Function functions.Character))
+-- CHR$, whatever stands after it
+chr_reads : (first : Option Bool) (after : List ℕ) → is_crc first ≡ false → IsReadOn first (codes "CHR$") after (Plain (signs.Function functions.Character))
 unfolding word_terminal terminal_sign
-chr_reads first behind free = record {
+chr_reads first after free = record {
   read = record {
     kind = kinds.Word;
     some = omega arith;
@@ -214,9 +214,9 @@ first_digit (b ∷ own) some all = (and_parts (is_ascii_digit b) (list_all is_as
 not_larger : (n : ℕ) → n ≤ 2147483648 → nat_lt 2147483648 n ≡ false
 not_larger n le = grind (arith, nat_tests)
 
-number_reads : (first : Option Bool) (own behind : List ℕ) (n : ℕ) → is_crc first ≡ false → 0 < length own → list_all is_ascii_digit own ≡ true →
-    digits_value 10 own ≡ n → n ≤ 2147483648 → is_quiet (slice_index behind 0) ≡ true → IsReadOn first own behind (Plain (signs.Number (cast_signed w32 n)))
-number_reads first own behind n free some all value small quiet =
+number_reads : (first : Option Bool) (own after : List ℕ) (n : ℕ) → is_crc first ≡ false → 0 < length own → list_all is_ascii_digit own ≡ true →
+    digits_value 10 own ≡ n → n ≤ 2147483648 → is_quiet (slice_index after 0) ≡ true → IsReadOn first own after (Plain (signs.Number (cast_signed w32 n)))
+number_reads first own after n free some all value small quiet =
     let first_is = first_digit own some all in
     let value_is : number_value own ≡ n = value_alone own all ∙ value in
     record {
@@ -232,11 +232,11 @@ number_reads first own behind n free some all value small quiet =
             parts = sym (append-nil own);
             are_digits = (λ none. omega (arith, some, ap length none), all);
             ends = (
-              starts_without is_ascii_digit behind (quiet_no_digit (slice_index behind 0) quiet),
-              and_no _ (is_ascii_digit (slice_index behind 1)) (quiet_no_exponent (slice_index behind 0) quiet),
+              starts_without is_ascii_digit after (quiet_no_digit (slice_index after 0) quiet),
+              and_no _ (is_ascii_digit (slice_index after 1)) (quiet_no_exponent (slice_index after 0) quiet),
             );
           },
-          sym (ap not (quiet_no_name (slice_index behind 0) quiet)),
+          sym (ap not (quiet_no_name (slice_index after 0) quiet)),
         );
         sees = ap (λ (k : ℕ). Plain (signs.Number (if nat_le k 2147483648 then cast_signed w32 k else pos 0))) value_is
             ∙ ap (λ (b : Bool). Plain (signs.Number (if b then cast_signed w32 n else pos 0))) (le-leb n 2147483648 small);
@@ -253,9 +253,9 @@ inside_is bytes =
     let len : length (34 ∷ bytes ++ 34 ∷ []) - 2 ≡ length bytes = omega (arith, length-append bytes (34 ∷ [])) in
     ap (λ (n : ℕ). take n (bytes ++ 34 ∷ [])) len ∙ take-append_seam bytes (34 ∷ [])
 
-text_reads : (first : Option Bool) (bytes behind : List ℕ) → is_crc first ≡ false → list_all (λ b. not (ends_string b)) bytes ≡ true →
-    IsReadOn first (34 ∷ bytes ++ 34 ∷ []) behind (Text bytes)
-text_reads first bytes behind free none = record {
+text_reads : (first : Option Bool) (bytes after : List ℕ) → is_crc first ≡ false → list_all (λ b. not (ends_string b)) bytes ≡ true →
+    IsReadOn first (34 ∷ bytes ++ 34 ∷ []) after (Text bytes)
+text_reads first bytes after free none = record {
   read = record {
     kind = kinds.Text;
     some = omega arith;
@@ -274,91 +274,91 @@ text_reads first bytes behind free none = record {
 pub blanks_none : (bytes : List ℕ) → AreBlanks bytes bytes
 blanks_none bytes = record { blanks = []; divides = refl; blank = refl }
 
-no_more_digits : (kind : TokenKind) (behind : List ℕ) → is_shut (slice_index behind 0) ≡ true → is_literal_digit kind (slice_index behind 0) ≡ false → HasNoDigit kind behind
-no_more_digits kind behind shut none = record {
-  rest = behind;
-  blank = blanks_none behind;
-  solid = starts_without (λ b. is_white b || b == 39) behind (shut_solid (slice_index behind 0) shut);
-  stops = starts_without (is_literal_digit kind) behind none;
+no_more_digits : (kind : TokenKind) (after : List ℕ) → is_shut (slice_index after 0) ≡ true → is_literal_digit kind (slice_index after 0) ≡ false → HasNoDigit kind after
+no_more_digits kind after shut none = record {
+  rest = after;
+  blank = blanks_none after;
+  solid = starts_without (λ b. is_white b || b == 39) after (shut_solid (slice_index after 0) shut);
+  stops = starts_without (is_literal_digit kind) after none;
 }
 
-pub spaced_digits : (kind : TokenKind) (digits behind : List ℕ) → list_all (is_literal_digit kind) digits ≡ true → HasNoDigit kind behind → SpacedDigits kind (digits ++ behind) digits behind
-spaced_digits kind [] behind all none = (refl, none)
-spaced_digits kind (d ∷ digits) behind all none =
+pub spaced_digits : (kind : TokenKind) (digits after : List ℕ) → list_all (is_literal_digit kind) digits ≡ true → HasNoDigit kind after → SpacedDigits kind (digits ++ after) digits after
+spaced_digits kind [] after all none = (refl, none)
+spaced_digits kind (d ∷ digits) after all none =
     let parts = and_parts (is_literal_digit kind d) (list_all (is_literal_digit kind) digits) all in
-    (digits ++ behind, blanks_none (d ∷ digits ++ behind), parts.0, spaced_digits kind digits behind parts.1 none)
+    (digits ++ after, blanks_none (d ∷ digits ++ after), parts.0, spaced_digits kind digits after parts.1 none)
 
 one_at_least : (n : ℕ) → 0 < n → true ≡ nat_le 1 n
 one_at_least n lt = grind (arith, nat_tests)
 
-literal_is : (kind : TokenKind) (mark : ℕ) (digits behind : List ℕ) → list_all (is_literal_digit kind) digits ≡ true → 0 < length digits → HasNoDigit kind behind →
-    IsLiteral kind true (mark ∷ digits) behind
-literal_is kind mark digits behind all some none = (digits, spaced_digits kind digits behind all none, one_at_least (length digits) some)
+literal_is : (kind : TokenKind) (mark : ℕ) (digits after : List ℕ) → list_all (is_literal_digit kind) digits ≡ true → 0 < length digits → HasNoDigit kind after →
+    IsLiteral kind true (mark ∷ digits) after
+literal_is kind mark digits after all some none = (digits, spaced_digits kind digits after all none, one_at_least (length digits) some)
 
-digits_back : (kind : TokenKind) (digits behind : List ℕ) → list_all (is_literal_digit kind) digits ≡ true → HasNoDigit kind behind → digits_in kind false digits ≡ digits
-digits_back kind digits behind all none = sym (digits_are_spaced kind digits behind digits (spaced_digits kind digits behind all none))
+digits_back : (kind : TokenKind) (digits after : List ℕ) → list_all (is_literal_digit kind) digits ≡ true → HasNoDigit kind after → digits_in kind false digits ≡ digits
+digits_back kind digits after all none = sym (digits_are_spaced kind digits after digits (spaced_digits kind digits after all none))
 
-hex_reads : (first : Option Bool) (digits behind : List ℕ) (bits : List Bool) → is_crc first ≡ false → list_all is_ascii_hexdigit digits ≡ true → 0 < length digits →
-    bits_of_hex digits ≡ bits → is_shut (slice_index behind 0) ≡ true → IsReadOn first (36 ∷ digits) behind (Literal bits)
-hex_reads first digits behind bits free all some back shut =
-    let none = no_more_digits kinds.Hexadecimal behind shut (shut_no_digit (slice_index behind 0) shut) in
+hex_reads : (first : Option Bool) (digits after : List ℕ) (bits : List Bool) → is_crc first ≡ false → list_all is_ascii_hexdigit digits ≡ true → 0 < length digits →
+    bits_of_hex digits ≡ bits → is_shut (slice_index after 0) ≡ true → IsReadOn first (36 ∷ digits) after (Literal bits)
+hex_reads first digits after bits free all some back shut =
+    let none = no_more_digits kinds.Hexadecimal after shut (shut_no_digit (slice_index after 0) shut) in
     record {
       read = record {
         kind = kinds.Hexadecimal;
         some = omega arith;
         kind_is = sym (kind_at_is first 36 free);
         solid = refl;
-        spells = literal_is kinds.Hexadecimal 36 digits behind all some none;
-        sees = ap (λ (v : List ℕ). Literal (bits_of_hex v)) (digits_back kinds.Hexadecimal digits behind all none) ∙ ap Literal back;
+        spells = literal_is kinds.Hexadecimal 36 digits after all some none;
+        sees = ap (λ (v : List ℕ). Literal (bits_of_hex v)) (digits_back kinds.Hexadecimal digits after all none) ∙ ap Literal back;
         short = refl;
         small = refl;
       };
       goes_on = other_goes_on first kinds.Hexadecimal (36 ∷ digits) free refl;
     }
 
-binary_reads : (first : Option Bool) (digits behind : List ℕ) (bits : List Bool) → is_crc first ≡ false → list_all (is_literal_digit kinds.Binary) digits ≡ true → 0 < length digits →
-    bits_of_binary digits ≡ bits → is_shut (slice_index behind 0) ≡ true → IsReadOn first (35 ∷ digits) behind (Literal bits)
-binary_reads first digits behind bits free all some back shut =
-    let none = no_more_digits kinds.Binary behind shut (shut_no_bit (slice_index behind 0) shut) in
+binary_reads : (first : Option Bool) (digits after : List ℕ) (bits : List Bool) → is_crc first ≡ false → list_all (is_literal_digit kinds.Binary) digits ≡ true → 0 < length digits →
+    bits_of_binary digits ≡ bits → is_shut (slice_index after 0) ≡ true → IsReadOn first (35 ∷ digits) after (Literal bits)
+binary_reads first digits after bits free all some back shut =
+    let none = no_more_digits kinds.Binary after shut (shut_no_bit (slice_index after 0) shut) in
     record {
       read = record {
         kind = kinds.Binary;
         some = omega arith;
         kind_is = sym (kind_at_is first 35 free);
         solid = refl;
-        spells = literal_is kinds.Binary 35 digits behind all some none;
-        sees = ap (λ (v : List ℕ). Literal (bits_of_binary v)) (digits_back kinds.Binary digits behind all none) ∙ ap Literal back;
+        spells = literal_is kinds.Binary 35 digits after all some none;
+        sees = ap (λ (v : List ℕ). Literal (bits_of_binary v)) (digits_back kinds.Binary digits after all none) ∙ ap Literal back;
         short = refl;
         small = refl;
       };
       goes_on = other_goes_on first kinds.Binary (35 ∷ digits) free refl;
     }
 
-literal_reads : (first : Option Bool) (bits : List Bool) (behind : List ℕ) → is_crc first ≡ false → 0 < length bits → is_shut (slice_index behind 0) ≡ true →
-    IsReadOn first (literal_spelling bits) behind (Literal bits)
-literal_reads first bits behind free some shut = by (length bits % 4 == 0) refl
+literal_reads : (first : Option Bool) (bits : List Bool) (after : List ℕ) → is_crc first ≡ false → 0 < length bits → is_shut (slice_index after 0) ≡ true →
+    IsReadOn first (literal_spelling bits) after (Literal bits)
+literal_reads first bits after free some shut = by (length bits % 4 == 0) refl
   where
-    by : (b : Bool) → (length bits % 4 == 0) ≡ b → IsReadOn first (if b then 36 ∷ all_hex_digits bits else 35 ∷ binary_digits bits) behind (Literal bits)
+    by : (b : Bool) → (length bits % 4 == 0) ≡ b → IsReadOn first (if b then 36 ∷ all_hex_digits bits else 35 ∷ binary_digits bits) after (Literal bits)
     by true e =
         let whole : length bits % 4 ≡ 0 = eqb-true (length bits % 4) 0 e in
-        hex_reads first (all_hex_digits bits) behind bits free (all_hex_are_digits bits whole)
+        hex_reads first (all_hex_digits bits) after bits free (all_hex_are_digits bits whole)
         (omega (arith, hex_length bits (digits_needed (length bits)), needed (length bits) whole)) (all_hex_back bits whole) shut
     by false e =
-        binary_reads first (binary_digits bits) behind bits free (binary_are_digits bits) (omega (arith, binary_some bits)) (binary_back bits) shut
+        binary_reads first (binary_digits bits) after bits free (binary_are_digits bits) (omega (arith, binary_some bits)) (binary_back bits) shut
 
 -- ---- marks
 
--- what is printed for a mark is one, where that byte stands behind it
-record IsMarkOf (own : List ℕ) (t : Symbol) (behind : List ℕ) : Type 0 where
+-- what is printed for a mark is one, where that byte stands after it
+record IsMarkOf (own : List ℕ) (t : Symbol) (after : List ℕ) : Type 0 where
   some : 0 < length own
   kind : kind_of (slice_index own 0) ≡ kinds.Mark
   solid : (is_white (slice_index own 0) || slice_index own 0 == 39) ≡ false
-  longest : IsMark own behind
+  longest : IsMark own after
   good : true ≡ is_mark_spelling own
   sees : Plain (mark_sign (mark_terminal own)) ≡ t
 
-mark_reads : (first : Option Bool) (own behind : List ℕ) (t : Symbol) → is_crc first ≡ false → IsMarkOf own t behind → IsReadOn first own behind t
-mark_reads first own behind t free is = record {
+mark_reads : (first : Option Bool) (own after : List ℕ) (t : Symbol) → is_crc first ≡ false → IsMarkOf own t after → IsReadOn first own after t
+mark_reads first own after t free is = record {
   read = record {
     kind = kinds.Mark;
     some = is.some;
@@ -382,61 +382,61 @@ single a c point quiet = elim (cases_eq c 46) [
   | inr ne ↦ no_double_mark a c (quiet_no_second c quiet ne)
 ]
 
-operator_is : (op : BinOp) (behind : List ℕ) → is_quiet (slice_index behind 0) ≡ true → IsMarkOf (operator_spelling op) (Plain (signs.Operator op)) behind
+operator_is : (op : BinOp) (after : List ℕ) → is_quiet (slice_index after 0) ≡ true → IsMarkOf (operator_spelling op) (Plain (signs.Operator op)) after
 unfolding operator_spelling mark_terminal terminal_sign
-operator_is Multiply behind quiet = record { some = omega arith; kind = refl; solid = refl; longest = single 42 (slice_index behind 0) refl quiet; good = refl; sees = refl }
-operator_is Divide behind quiet = record { some = omega arith; kind = refl; solid = refl; longest = single 47 (slice_index behind 0) refl quiet; good = refl; sees = refl }
-operator_is Remainder behind quiet = record { some = omega arith; kind = refl; solid = refl; longest = single 37 (slice_index behind 0) refl quiet; good = refl; sees = refl }
-operator_is Add behind quiet = record { some = omega arith; kind = refl; solid = refl; longest = single 43 (slice_index behind 0) refl quiet; good = refl; sees = refl }
-operator_is Subtract behind quiet = record { some = omega arith; kind = refl; solid = refl; longest = single 45 (slice_index behind 0) refl quiet; good = refl; sees = refl }
-operator_is ShiftLeft behind quiet = record { some = omega arith; kind = refl; solid = refl; longest = refl; good = refl; sees = refl }
-operator_is ShiftRight behind quiet = record { some = omega arith; kind = refl; solid = refl; longest = refl; good = refl; sees = refl }
-operator_is Less behind quiet = record { some = omega arith; kind = refl; solid = refl; longest = single 60 (slice_index behind 0) refl quiet; good = refl; sees = refl }
-operator_is AtMost behind quiet = record { some = omega arith; kind = refl; solid = refl; longest = refl; good = refl; sees = refl }
-operator_is Greater behind quiet = record { some = omega arith; kind = refl; solid = refl; longest = single 62 (slice_index behind 0) refl quiet; good = refl; sees = refl }
-operator_is AtLeast behind quiet = record { some = omega arith; kind = refl; solid = refl; longest = refl; good = refl; sees = refl }
-operator_is Equal behind quiet = record { some = omega arith; kind = refl; solid = refl; longest = refl; good = refl; sees = refl }
-operator_is NotEqual behind quiet = record { some = omega arith; kind = refl; solid = refl; longest = refl; good = refl; sees = refl }
-operator_is BitAnd behind quiet = record { some = omega arith; kind = refl; solid = refl; longest = single 38 (slice_index behind 0) refl quiet; good = refl; sees = refl }
-operator_is BitXor behind quiet = record { some = omega arith; kind = refl; solid = refl; longest = single 94 (slice_index behind 0) refl quiet; good = refl; sees = refl }
-operator_is BitOr behind quiet = record { some = omega arith; kind = refl; solid = refl; longest = single 124 (slice_index behind 0) refl quiet; good = refl; sees = refl }
-operator_is And behind quiet = record { some = omega arith; kind = refl; solid = refl; longest = refl; good = refl; sees = refl }
-operator_is Or behind quiet = record { some = omega arith; kind = refl; solid = refl; longest = refl; good = refl; sees = refl }
+operator_is Multiply after quiet = record { some = omega arith; kind = refl; solid = refl; longest = single 42 (slice_index after 0) refl quiet; good = refl; sees = refl }
+operator_is Divide after quiet = record { some = omega arith; kind = refl; solid = refl; longest = single 47 (slice_index after 0) refl quiet; good = refl; sees = refl }
+operator_is Remainder after quiet = record { some = omega arith; kind = refl; solid = refl; longest = single 37 (slice_index after 0) refl quiet; good = refl; sees = refl }
+operator_is Add after quiet = record { some = omega arith; kind = refl; solid = refl; longest = single 43 (slice_index after 0) refl quiet; good = refl; sees = refl }
+operator_is Subtract after quiet = record { some = omega arith; kind = refl; solid = refl; longest = single 45 (slice_index after 0) refl quiet; good = refl; sees = refl }
+operator_is ShiftLeft after quiet = record { some = omega arith; kind = refl; solid = refl; longest = refl; good = refl; sees = refl }
+operator_is ShiftRight after quiet = record { some = omega arith; kind = refl; solid = refl; longest = refl; good = refl; sees = refl }
+operator_is Less after quiet = record { some = omega arith; kind = refl; solid = refl; longest = single 60 (slice_index after 0) refl quiet; good = refl; sees = refl }
+operator_is AtMost after quiet = record { some = omega arith; kind = refl; solid = refl; longest = refl; good = refl; sees = refl }
+operator_is Greater after quiet = record { some = omega arith; kind = refl; solid = refl; longest = single 62 (slice_index after 0) refl quiet; good = refl; sees = refl }
+operator_is AtLeast after quiet = record { some = omega arith; kind = refl; solid = refl; longest = refl; good = refl; sees = refl }
+operator_is Equal after quiet = record { some = omega arith; kind = refl; solid = refl; longest = refl; good = refl; sees = refl }
+operator_is NotEqual after quiet = record { some = omega arith; kind = refl; solid = refl; longest = refl; good = refl; sees = refl }
+operator_is BitAnd after quiet = record { some = omega arith; kind = refl; solid = refl; longest = single 38 (slice_index after 0) refl quiet; good = refl; sees = refl }
+operator_is BitXor after quiet = record { some = omega arith; kind = refl; solid = refl; longest = single 94 (slice_index after 0) refl quiet; good = refl; sees = refl }
+operator_is BitOr after quiet = record { some = omega arith; kind = refl; solid = refl; longest = single 124 (slice_index after 0) refl quiet; good = refl; sees = refl }
+operator_is And after quiet = record { some = omega arith; kind = refl; solid = refl; longest = refl; good = refl; sees = refl }
+operator_is Or after quiet = record { some = omega arith; kind = refl; solid = refl; longest = refl; good = refl; sees = refl }
 
--- a mark behind which a space may stand
-closing_is : (m : Mark) (behind : List ℕ) → is_quiet (slice_index behind 0) ≡ true → IsMarkOf (mark_spelling m) (Plain (signs.Mark m)) behind
+-- a mark after which a space may stand
+closing_is : (m : Mark) (after : List ℕ) → is_quiet (slice_index after 0) ≡ true → IsMarkOf (mark_spelling m) (Plain (signs.Mark m)) after
 unfolding mark_spelling mark_terminal terminal_sign
-closing_is marks.Tilde behind quiet = record { some = omega arith; kind = refl; solid = refl; longest = single 126 (slice_index behind 0) refl quiet; good = refl; sees = refl }
-closing_is marks.Exclamation behind quiet = record { some = omega arith; kind = refl; solid = refl; longest = single 33 (slice_index behind 0) refl quiet; good = refl; sees = refl }
-closing_is marks.LeftRound behind quiet = record { some = omega arith; kind = refl; solid = refl; longest = single 40 (slice_index behind 0) refl quiet; good = refl; sees = refl }
-closing_is marks.RightRound behind quiet = record { some = omega arith; kind = refl; solid = refl; longest = single 41 (slice_index behind 0) refl quiet; good = refl; sees = refl }
-closing_is marks.LeftSquare behind quiet = record { some = omega arith; kind = refl; solid = refl; longest = single 91 (slice_index behind 0) refl quiet; good = refl; sees = refl }
-closing_is marks.RightSquare behind quiet = record { some = omega arith; kind = refl; solid = refl; longest = single 93 (slice_index behind 0) refl quiet; good = refl; sees = refl }
-closing_is marks.Dots behind quiet = record { some = omega arith; kind = refl; solid = refl; longest = refl; good = refl; sees = refl }
-closing_is marks.Comma behind quiet = record { some = omega arith; kind = refl; solid = refl; longest = single 44 (slice_index behind 0) refl quiet; good = refl; sees = refl }
-closing_is marks.Equals behind quiet = record { some = omega arith; kind = refl; solid = refl; longest = single 61 (slice_index behind 0) refl quiet; good = refl; sees = refl }
-closing_is marks.Colon behind quiet = record { some = omega arith; kind = refl; solid = refl; longest = single 58 (slice_index behind 0) refl quiet; good = refl; sees = refl }
+closing_is marks.Tilde after quiet = record { some = omega arith; kind = refl; solid = refl; longest = single 126 (slice_index after 0) refl quiet; good = refl; sees = refl }
+closing_is marks.Exclamation after quiet = record { some = omega arith; kind = refl; solid = refl; longest = single 33 (slice_index after 0) refl quiet; good = refl; sees = refl }
+closing_is marks.LeftRound after quiet = record { some = omega arith; kind = refl; solid = refl; longest = single 40 (slice_index after 0) refl quiet; good = refl; sees = refl }
+closing_is marks.RightRound after quiet = record { some = omega arith; kind = refl; solid = refl; longest = single 41 (slice_index after 0) refl quiet; good = refl; sees = refl }
+closing_is marks.LeftSquare after quiet = record { some = omega arith; kind = refl; solid = refl; longest = single 91 (slice_index after 0) refl quiet; good = refl; sees = refl }
+closing_is marks.RightSquare after quiet = record { some = omega arith; kind = refl; solid = refl; longest = single 93 (slice_index after 0) refl quiet; good = refl; sees = refl }
+closing_is marks.Dots after quiet = record { some = omega arith; kind = refl; solid = refl; longest = refl; good = refl; sees = refl }
+closing_is marks.Comma after quiet = record { some = omega arith; kind = refl; solid = refl; longest = single 44 (slice_index after 0) refl quiet; good = refl; sees = refl }
+closing_is marks.Equals after quiet = record { some = omega arith; kind = refl; solid = refl; longest = single 61 (slice_index after 0) refl quiet; good = refl; sees = refl }
+closing_is marks.Colon after quiet = record { some = omega arith; kind = refl; solid = refl; longest = single 58 (slice_index after 0) refl quiet; good = refl; sees = refl }
 
--- marks behind which no space stands: what follows is no matter
-left_round_is : (behind : List ℕ) → IsMarkOf (codes "(") (Plain (signs.Mark marks.LeftRound)) behind
+-- marks after which no space stands: what follows is no matter
+left_round_is : (after : List ℕ) → IsMarkOf (codes "(") (Plain (signs.Mark marks.LeftRound)) after
 unfolding mark_terminal terminal_sign
-left_round_is behind = record { some = omega arith; kind = refl; solid = refl; longest = refl; good = refl; sees = refl }
+left_round_is after = record { some = omega arith; kind = refl; solid = refl; longest = refl; good = refl; sees = refl }
 
-left_square_is : (behind : List ℕ) → IsMarkOf (codes "[") (Plain (signs.Mark marks.LeftSquare)) behind
+left_square_is : (after : List ℕ) → IsMarkOf (codes "[") (Plain (signs.Mark marks.LeftSquare)) after
 unfolding mark_terminal terminal_sign
-left_square_is behind = record { some = omega arith; kind = refl; solid = refl; longest = refl; good = refl; sees = refl }
+left_square_is after = record { some = omega arith; kind = refl; solid = refl; longest = refl; good = refl; sees = refl }
 
-dots_is : (behind : List ℕ) → IsMarkOf (codes "..") (Plain (signs.Mark marks.Dots)) behind
+dots_is : (after : List ℕ) → IsMarkOf (codes "..") (Plain (signs.Mark marks.Dots)) after
 unfolding mark_terminal terminal_sign
-dots_is behind = record { some = omega arith; kind = refl; solid = refl; longest = refl; good = refl; sees = refl }
+dots_is after = record { some = omega arith; kind = refl; solid = refl; longest = refl; good = refl; sees = refl }
 
-negate_is : (behind : List ℕ) → IsMarkOf (codes "-") (unary_symbol Negate) behind
+negate_is : (after : List ℕ) → IsMarkOf (codes "-") (unary_symbol Negate) after
 unfolding mark_terminal terminal_sign unary_symbol
-negate_is behind = record { some = omega arith; kind = refl; solid = refl; longest = refl; good = refl; sees = refl }
+negate_is after = record { some = omega arith; kind = refl; solid = refl; longest = refl; good = refl; sees = refl }
 
-complement_is : (behind : List ℕ) → IsMarkOf (codes "~") (unary_symbol Complement) behind
+complement_is : (after : List ℕ) → IsMarkOf (codes "~") (unary_symbol Complement) after
 unfolding mark_terminal terminal_sign unary_symbol
-complement_is behind = record { some = omega arith; kind = refl; solid = refl; longest = refl; good = refl; sees = refl }
+complement_is after = record { some = omega arith; kind = refl; solid = refl; longest = refl; good = refl; sees = refl }
 
 -- but no `=` may follow `!`
 not_alone : (c : ℕ) → c ≢ 61 → is_mark_spelling (33 ∷ c ∷ []) ≡ false
@@ -447,13 +447,13 @@ not_alone c ne = by (61 == c) refl
     by true e = absurd (ne (sym (eqb-true 61 c e)))
     by false e = rw e refl
 
-not_is : (behind : List ℕ) → slice_index behind 0 ≢ 61 → IsMarkOf (codes "!") (unary_symbol Not) behind
+not_is : (after : List ℕ) → slice_index after 0 ≢ 61 → IsMarkOf (codes "!") (unary_symbol Not) after
 unfolding mark_terminal terminal_sign unary_symbol
-not_is behind ne = record { some = omega arith; kind = refl; solid = refl; longest = not_alone (slice_index behind 0) ne; good = refl; sees = refl }
+not_is after ne = record { some = omega arith; kind = refl; solid = refl; longest = not_alone (slice_index after 0) ne; good = refl; sees = refl }
 
 -- ---- all tokens
 
--- what may stand behind a token: this byte, or 0 for nothing
+-- what may stand after a token: this byte, or 0 for nothing
 unfoldable pub may_stand : Printed → ℕ → Bool
 may_stand (UnaryMark op) c = not (c == 61)
 may_stand (Seen (Plain (signs.Mark marks.LeftRound))) c = true
@@ -477,49 +477,49 @@ held_value (negsuc n) e =
 not_equal : (c k : ℕ) → not (c == k) ≡ true → c ≢ k
 not_equal c k e is = grind (arith, nat_tests, e, is)
 
-pub token_reads : (first : Option Bool) (t : Printed) (behind : List ℕ) → is_crc first ≡ false → is_spellable (seen t) ≡ true → is_ordinary t ≡ true →
-    may_stand t (slice_index behind 0) ≡ true → IsReadOn first (spelling t) behind (seen t)
+pub token_reads : (first : Option Bool) (t : Printed) (after : List ℕ) → is_crc first ≡ false → is_spellable (seen t) ≡ true → is_ordinary t ≡ true →
+    may_stand t (slice_index after 0) ≡ true → IsReadOn first (spelling t) after (seen t)
 unfolding is_spellable is_spellable_sign is_ordinary may_stand sign_spelling mark_spelling function_spelling
-token_reads first (Seen (Plain (signs.Number z))) behind free spells other stands =
+token_reads first (Seen (Plain (signs.Number z))) after free spells other stands =
     let own = held_value z spells in
-    subst (λ (w : ℤ). IsReadOn first (decimal (nat_abs z)) behind (Plain (signs.Number w))) own.0
-    (number_reads first (decimal (nat_abs z)) behind (nat_abs z) free (decimal_some (nat_abs z) (omega (arith, own.1)))
+    subst (λ (w : ℤ). IsReadOn first (decimal (nat_abs z)) after (Plain (signs.Number w))) own.0
+    (number_reads first (decimal (nat_abs z)) after (nat_abs z) free (decimal_some (nat_abs z) (omega (arith, own.1)))
     (decimal_are_digits (nat_abs z) (omega (arith, own.1))) (decimal_back (nat_abs z) (omega (arith, own.1))) own.1 stands)
-token_reads first (Seen (Plain (signs.Name v))) behind free spells other stands = word_reads first v behind (signs.Name v) free (name_word v spells) stands
-token_reads first (Seen (Plain (signs.State k))) behind free spells other stands =
-    word_reads first (sign_spelling (signs.State k)) behind (signs.State k) free (state_word k (below k 16 spells)) stands
-token_reads first (Seen (Plain (signs.Operator op))) behind free spells other stands = mark_reads first (operator_spelling op) behind _ free (operator_is op behind stands)
-token_reads first (Seen (Plain (signs.Mark marks.LeftRound))) behind free spells other stands = mark_reads first _ behind _ free (left_round_is behind)
-token_reads first (Seen (Plain (signs.Mark marks.LeftSquare))) behind free spells other stands = mark_reads first _ behind _ free (left_square_is behind)
-token_reads first (Seen (Plain (signs.Mark marks.Dots))) behind free spells other stands = mark_reads first _ behind _ free (dots_is behind)
-token_reads first (Seen (Plain (signs.Mark marks.Tilde))) behind free spells other stands = mark_reads first _ behind _ free (closing_is marks.Tilde behind stands)
-token_reads first (Seen (Plain (signs.Mark marks.Exclamation))) behind free spells other stands = mark_reads first _ behind _ free (closing_is marks.Exclamation behind stands)
-token_reads first (Seen (Plain (signs.Mark marks.RightRound))) behind free spells other stands = mark_reads first _ behind _ free (closing_is marks.RightRound behind stands)
-token_reads first (Seen (Plain (signs.Mark marks.RightSquare))) behind free spells other stands = mark_reads first _ behind _ free (closing_is marks.RightSquare behind stands)
-token_reads first (Seen (Plain (signs.Mark marks.Comma))) behind free spells other stands = mark_reads first _ behind _ free (closing_is marks.Comma behind stands)
-token_reads first (Seen (Plain (signs.Mark marks.Equals))) behind free spells other stands = mark_reads first _ behind _ free (closing_is marks.Equals behind stands)
-token_reads first (Seen (Plain (signs.Mark marks.Colon))) behind free spells other stands = mark_reads first _ behind _ free (closing_is marks.Colon behind stands)
-token_reads first (Seen (Plain (signs.Outer outers.Note))) behind free spells other stands = word_reads first _ behind _ free (outer_word outers.Note (λ e. absurd cc)) stands
-token_reads first (Seen (Plain (signs.Outer outers.Action))) behind free spells other stands = word_reads first _ behind _ free (outer_word outers.Action (λ e. absurd cc)) stands
-token_reads first (Seen (Plain (signs.Outer outers.Procedure))) behind free spells other stands = word_reads first _ behind _ free (outer_word outers.Procedure (λ e. absurd cc)) stands
-token_reads first (Seen (Plain (signs.Outer outers.Data))) behind free spells other stands = word_reads first _ behind _ free (outer_word outers.Data (λ e. absurd cc)) stands
-token_reads first (Seen (Plain (signs.Outer outers.EndData))) behind free spells other stands = word_reads first _ behind _ free (outer_word outers.EndData (λ e. absurd cc)) stands
-token_reads first (Seen (Plain (signs.Outer outers.Crc))) behind free spells other stands = absurd cc
-token_reads first (Seen (Plain (signs.Inner w))) behind free spells other stands = word_reads first _ behind _ free (inner_word w) stands
-token_reads first (Seen (Plain (signs.Simple w))) behind free spells other stands = word_reads first _ behind _ free (simple_word w) stands
-token_reads first (Seen (Plain signs.If)) behind free spells other stands = word_reads first _ behind _ free if_word stands
-token_reads first (Seen (Plain (signs.Port w))) behind free spells other stands = word_reads first _ behind _ free (port_word w) stands
-token_reads first (Seen (Plain (signs.Join w))) behind free spells other stands = word_reads first _ behind _ free (join_word w) stands
-token_reads first (Seen (Plain (signs.Function functions.Abs))) behind free spells other stands = word_reads first _ behind _ free abs_word stands
-token_reads first (Seen (Plain (signs.Function functions.Bool))) behind free spells other stands = word_reads first _ behind _ free bool_word stands
-token_reads first (Seen (Plain (signs.Function functions.Int))) behind free spells other stands = word_reads first _ behind _ free int_word stands
-token_reads first (Seen (Plain (signs.Function functions.Character))) behind free spells other stands = chr_reads first behind free
-token_reads first (Seen (Plain signs.LeftOutStatement)) behind free spells other stands = absurd cc
-token_reads first (Seen (Plain signs.LeftOutWord)) behind free spells other stands = absurd cc
-token_reads first (Seen (Plain signs.Other)) behind free spells other stands = absurd cc
-token_reads first (Seen (Text bytes)) behind free spells other stands = text_reads first bytes behind free spells
-token_reads first (Seen (Literal bits)) behind free spells other stands = literal_reads first bits behind free (below 0 (length bits) spells) stands
-token_reads first (Seen (CheckWord n)) behind free spells other stands = absurd cc
-token_reads first (UnaryMark Negate) behind free spells other stands = mark_reads first _ behind _ free (negate_is behind)
-token_reads first (UnaryMark Complement) behind free spells other stands = mark_reads first _ behind _ free (complement_is behind)
-token_reads first (UnaryMark Not) behind free spells other stands = mark_reads first _ behind _ free (not_is behind (not_equal (slice_index behind 0) 61 stands))
+token_reads first (Seen (Plain (signs.Name v))) after free spells other stands = word_reads first v after (signs.Name v) free (name_word v spells) stands
+token_reads first (Seen (Plain (signs.State k))) after free spells other stands =
+    word_reads first (sign_spelling (signs.State k)) after (signs.State k) free (state_word k (below k 16 spells)) stands
+token_reads first (Seen (Plain (signs.Operator op))) after free spells other stands = mark_reads first (operator_spelling op) after _ free (operator_is op after stands)
+token_reads first (Seen (Plain (signs.Mark marks.LeftRound))) after free spells other stands = mark_reads first _ after _ free (left_round_is after)
+token_reads first (Seen (Plain (signs.Mark marks.LeftSquare))) after free spells other stands = mark_reads first _ after _ free (left_square_is after)
+token_reads first (Seen (Plain (signs.Mark marks.Dots))) after free spells other stands = mark_reads first _ after _ free (dots_is after)
+token_reads first (Seen (Plain (signs.Mark marks.Tilde))) after free spells other stands = mark_reads first _ after _ free (closing_is marks.Tilde after stands)
+token_reads first (Seen (Plain (signs.Mark marks.Exclamation))) after free spells other stands = mark_reads first _ after _ free (closing_is marks.Exclamation after stands)
+token_reads first (Seen (Plain (signs.Mark marks.RightRound))) after free spells other stands = mark_reads first _ after _ free (closing_is marks.RightRound after stands)
+token_reads first (Seen (Plain (signs.Mark marks.RightSquare))) after free spells other stands = mark_reads first _ after _ free (closing_is marks.RightSquare after stands)
+token_reads first (Seen (Plain (signs.Mark marks.Comma))) after free spells other stands = mark_reads first _ after _ free (closing_is marks.Comma after stands)
+token_reads first (Seen (Plain (signs.Mark marks.Equals))) after free spells other stands = mark_reads first _ after _ free (closing_is marks.Equals after stands)
+token_reads first (Seen (Plain (signs.Mark marks.Colon))) after free spells other stands = mark_reads first _ after _ free (closing_is marks.Colon after stands)
+token_reads first (Seen (Plain (signs.Outer outers.Note))) after free spells other stands = word_reads first _ after _ free (outer_word outers.Note (λ e. absurd cc)) stands
+token_reads first (Seen (Plain (signs.Outer outers.Action))) after free spells other stands = word_reads first _ after _ free (outer_word outers.Action (λ e. absurd cc)) stands
+token_reads first (Seen (Plain (signs.Outer outers.Procedure))) after free spells other stands = word_reads first _ after _ free (outer_word outers.Procedure (λ e. absurd cc)) stands
+token_reads first (Seen (Plain (signs.Outer outers.Data))) after free spells other stands = word_reads first _ after _ free (outer_word outers.Data (λ e. absurd cc)) stands
+token_reads first (Seen (Plain (signs.Outer outers.EndData))) after free spells other stands = word_reads first _ after _ free (outer_word outers.EndData (λ e. absurd cc)) stands
+token_reads first (Seen (Plain (signs.Outer outers.Crc))) after free spells other stands = absurd cc
+token_reads first (Seen (Plain (signs.Inner w))) after free spells other stands = word_reads first _ after _ free (inner_word w) stands
+token_reads first (Seen (Plain (signs.Simple w))) after free spells other stands = word_reads first _ after _ free (simple_word w) stands
+token_reads first (Seen (Plain signs.If)) after free spells other stands = word_reads first _ after _ free if_word stands
+token_reads first (Seen (Plain (signs.Port w))) after free spells other stands = word_reads first _ after _ free (port_word w) stands
+token_reads first (Seen (Plain (signs.Join w))) after free spells other stands = word_reads first _ after _ free (join_word w) stands
+token_reads first (Seen (Plain (signs.Function functions.Abs))) after free spells other stands = word_reads first _ after _ free abs_word stands
+token_reads first (Seen (Plain (signs.Function functions.Bool))) after free spells other stands = word_reads first _ after _ free bool_word stands
+token_reads first (Seen (Plain (signs.Function functions.Int))) after free spells other stands = word_reads first _ after _ free int_word stands
+token_reads first (Seen (Plain (signs.Function functions.Character))) after free spells other stands = chr_reads first after free
+token_reads first (Seen (Plain signs.LeftOutStatement)) after free spells other stands = absurd cc
+token_reads first (Seen (Plain signs.LeftOutWord)) after free spells other stands = absurd cc
+token_reads first (Seen (Plain signs.Other)) after free spells other stands = absurd cc
+token_reads first (Seen (Text bytes)) after free spells other stands = text_reads first bytes after free spells
+token_reads first (Seen (Literal bits)) after free spells other stands = literal_reads first bits after free (below 0 (length bits) spells) stands
+token_reads first (Seen (CheckWord n)) after free spells other stands = absurd cc
+token_reads first (UnaryMark Negate) after free spells other stands = mark_reads first _ after _ free (negate_is after)
+token_reads first (UnaryMark Complement) after free spells other stands = mark_reads first _ after _ free (complement_is after)
+token_reads first (UnaryMark Not) after free spells other stands = mark_reads first _ after _ free (not_is after (not_equal (slice_index after 0) 61 stands))

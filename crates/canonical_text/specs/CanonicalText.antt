@@ -21,7 +21,7 @@ checked_body before body = body
 abbrev pub checked : List ℕ → StmtTree → StmtTree
 checked before st = record { label = st.label; body = checked_body before st.body }
 
--- the statements whose lines stand behind these bytes, with their check words
+-- the statements whose lines stand after these bytes, with their check words
 abbrev pub checked_from : List ℕ → List StmtTree → List StmtTree
 checked_from before [] = []
 checked_from before (st ∷ sts) = checked before st ∷ checked_from (before ++ line (checked before st)) sts

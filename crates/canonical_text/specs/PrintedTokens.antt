@@ -171,7 +171,7 @@ binary_digits (b ∷ bits) = binary_digits bits ++ (if b then 49 else 48) ∷ []
 abbrev pub literal_spelling : List Bool → List ℕ
 literal_spelling bits = if length bits % 4 == 0 then 36 ∷ all_hex_digits bits else 35 ∷ binary_digits bits
 
--- the bytes of a token: a string has its quotes (34), the digits behind CRC are four
+-- the bytes of a token: a string has its quotes (34), the digits after CRC are four
 abbrev pub spelling : Printed → List ℕ
 spelling (Seen (Plain sign)) = sign_spelling sign
 spelling (Seen (Text bytes)) = 34 ∷ bytes ++ 34 ∷ []

@@ -56,8 +56,8 @@ begins_operand (Seen (Plain (signs.Function f))) = true
 begins_operand (UnaryMark op) = true
 begins_operand _ = false
 
--- Whether a token may stand behind another, so that the two stay apart when they are read: an operand stands behind the
--- mark of an operator with one operand, since `!` and `=` are one mark; and what stands behind a literal touches it,
+-- Whether a token may stand after another, so that the two stay apart when they are read: an operand stands after the
+-- mark of an operator with one operand, since `!` and `=` are one mark; and what stands after a literal touches it,
 -- since white space and more digits go on with it.
 unfoldable pub stays_apart : Printed → Printed → Bool
 stays_apart (UnaryMark op) next = begins_operand next
@@ -70,7 +70,7 @@ stay_apart [] = true
 stay_apart (t ∷ []) = true
 stay_apart (t ∷ next ∷ ts) = stays_apart t next && stay_apart (next ∷ ts)
 
--- neither the word CRC nor what stands behind it, which are read in a way of their own
+-- neither the word CRC nor what stands after it, which are read in a way of their own
 unfoldable pub is_ordinary : Printed → Bool
 is_ordinary (Seen (Plain (signs.Outer outers.Crc))) = false
 is_ordinary (Seen (CheckWord n)) = false

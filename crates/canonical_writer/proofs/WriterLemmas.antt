@@ -130,19 +130,19 @@ touch_same t u =
     ∙ ap (λ (b : Bool). leans_on t || leans_back u || (b && round (shape_of u))) (calls_same t)
     ∙ ap (λ (b : Bool). leans_on t || leans_back u || (is_function t && b)) (round_same u)
 
-behind : (front : List ℕ) (t : Printed) (ts : List Printed) → (written (record { bytes = front ++ spelling t; last = shape_of t }) ts).bytes ≡ front ++ spaced (t ∷ ts)
-behind front t [] = refl
-behind front t (u ∷ us) =
+after : (front : List ℕ) (t : Printed) (ts : List Printed) → (written (record { bytes = front ++ spelling t; last = shape_of t }) ts).bytes ≡ front ++ spaced (t ∷ ts)
+after front t [] = refl
+after front t (u ∷ us) =
     ap (λ (b : Bool). (written (record { bytes = (front ++ spelling t) ++ ((if b then [] else 32 ∷ []) ++ spelling u); last = shape_of u }) us).bytes) (touch_same t u)
     ∙ ap (λ (v : List ℕ). (written (record { bytes = v; last = shape_of u }) us).bytes) (sym (append_assoc (front ++ spelling t) (gap t u) (spelling u)))
-    ∙ behind ((front ++ spelling t) ++ gap t u) u us
+    ∙ after ((front ++ spelling t) ++ gap t u) u us
     ∙ append_assoc (front ++ spelling t) (gap t u) (spaced (u ∷ us)) ∙ append_assoc front (spelling t) (gap t u ++ spaced (u ∷ us))
 
 -- where no token stood before
 pub written_bytes : (front : List ℕ) (ts : List Printed) → (written (record { bytes = front; last = shapes.Nothing }) ts).bytes ≡ front ++ spaced ts
 unfolding shapes_touch
 written_bytes front [] = sym (append-nil front)
-written_bytes front (t ∷ ts) = behind front t ts
+written_bytes front (t ∷ ts) = after front t ts
 
 -- a fact of a call that did not fail, carried on
 pub on_ok : {A E P Q : Type 0} (result : Result A E) → (P → Q) → OnOk result P → OnOk result Q
@@ -164,7 +164,7 @@ text_put bytes old a b new e f g =
     ∙ ap (λ (w : Written). record w { bytes = (w.bytes ++ bytes) ++ 34 ∷ [] }) e
     ∙ ap (λ (v : List ℕ). record { bytes = v; last = shapes.Usual }) joined
 
--- the items behind the first, each with the token before it
+-- the items after the first, each with the token before it
 abbrev pub rest_tokens : {A : Type 0} → (A → List Printed) → Printed → List A → List Printed
 rest_tokens write t [] = []
 rest_tokens write t (x ∷ xs) = (t ∷ write x) ++ rest_tokens write t xs
@@ -181,7 +181,7 @@ pub next_item : {A : Type 0} (write : A → List Printed) (t : Printed) (w : Wri
     written (written (written w (t ∷ [])) (write x)) (rest_tokens write t xs) ≡ written w (rest_tokens write t (x ∷ xs))
 next_item write t w x xs = sym (written_append (written w (t ∷ [])) (write x) (rest_tokens write t xs))
 
--- what is left to write of a list behind so many items
+-- what is left to write of a list after so many items
 abbrev pub left_tokens : {A : Type 0} → (A → List Printed) → Printed → ℕ → List A → List Printed
 left_tokens write t zero xs = separated_tokens write t xs
 left_tokens write t (suc i) xs = rest_tokens write t xs
@@ -196,7 +196,7 @@ pub next_left : {A : Type 0} (write : A → List Printed) (t : Printed) (w : Wri
 next_left write t w zero x xs lt = absurd (omega arith)
 next_left write t w (suc i) x xs lt = rw (add-one (suc i)) (next_item write t w x xs)
 
--- one item more is written: this one, behind the token between two, if it is not the first
+-- one item more is written: this one, after the token between two, if it is not the first
 module _ {A : Type 0} (write : A → List Printed) (t : Printed) (i : ℕ) (xs : List A) (x : A) (below : i < length xs) (is : x ≡ get_or xs i x)
     (start whole now : Written) (so_far : written start (left_tokens write t i (drop i xs)) ≡ whole) where
   split : drop i xs ≡ x ∷ drop (i + 1) xs

@@ -7,7 +7,7 @@ use Rattle.stapl_syntax.specs.Trees.{crc, StmtTree}
 use Rattle.canonical_text.specs.PrintedTokens.{Printed, spelling}
 use Rattle.canonical_text.specs.Spacing.{leans_back, leans_on, is_function, is_left_round}
 
--- what is written, and how the last token bears on the space behind it
+-- what is written, and how the last token bears on the space after it
 pub record Written : Type 0 where
   pub bytes : List ℕ
   pub last : Shape
@@ -35,22 +35,22 @@ shapes_touch last shapes.LeansBack = true
 shapes_touch last shapes.LeansBoth = true
 shapes_touch last _ = false
 
--- these bytes of this shape behind what is written
+-- these bytes of this shape after what is written
 abbrev pub put_as : Written → List ℕ → Shape → Written
 put_as w bytes shape = record { bytes = w.bytes ++ ((if shapes_touch w.last shape then [] else 32 ∷ []) ++ bytes); last = shape }
 
 abbrev pub written_one : Written → Printed → Written
 written_one w t = put_as w (spelling t) (shape_of t)
 
--- tokens behind what is written
+-- tokens after what is written
 abbrev pub written : Written → List Printed → Written
 written w [] = w
 written w (t ∷ ts) = written (written_one w t) ts
 
--- a line is begun behind these bytes
+-- a line is begun after these bytes
 abbrev pub line_begun : List ℕ → Written
 line_begun bytes = record { bytes = bytes; last = shapes.Nothing }
 
--- CRC behind these bytes
+-- CRC after these bytes
 abbrev pub check_statement : Option (List ℕ) → List ℕ → StmtTree
 check_statement label before = record { label = label; body = crc (check_word before) }

@@ -281,7 +281,7 @@ impl Writer {
         self.put_bytes(b"\"")
     }
 
-    /// The four digits behind CRC.
+    /// The four digits after CRC.
     pub(crate) fn put_check_word(&mut self, word: u16) -> Result<(), AllocError>
         ensures { OnOk result (self.new ≡ written self.old (Seen (CheckWord word) ∷ [])) }
     {

@@ -89,7 +89,7 @@ impl Writer {
         self.last = Shape::Nothing;
     }
 
-    /// Puts bytes as they are, behind the last token.
+    /// Puts bytes as they are, after the last token.
     pub(crate) fn put_bytes(&mut self, bytes: &[u8]) -> Result<(), AllocError>
         ensures { OnOk result (self.new ≡ record self.old { bytes = self.old.bytes ++ bytes.now }) }
     {

@@ -6,7 +6,7 @@ use Rattle.std.specs.Map.{lookup}
 use Rattle.std.specs.Str.{bytes_eq}
 use Rattle.stapl_syntax.specs.declared.names.Block.{Block}
 use Rattle.stapl_syntax.specs.Trees.{BodyTree, procedure, data_block, StmtTree}
-use Rattle.stapl_syntax.specs.Names.{numbered_from, numbered, inside_behind, block_of_body, block_of, block_named, declared_from, declared, put_first, firsts_behind}
+use Rattle.stapl_syntax.specs.Names.{numbered_from, numbered, inside_next, block_of_body, block_of, block_named, declared_from, declared, put_first, firsts_after}
 use Rattle.stapl_meaning.specs.Scopes.{program_names}
 use Rattle.carried_plays.specs.PadNames.{begins_block, has_block, IsFree}
 
@@ -36,7 +36,7 @@ module _ {V : Type 0} (name : List ℕ) where
       by false = lookup_other es e h k
 
   firsts_other : (xs es : List (List ℕ × V)) → list_any (λ (e : List ℕ × V). bytes_eq name e.0) xs ≡ false → is_some (lookup (bytes_eq name) es) ≡ false →
-      is_some (lookup (bytes_eq name) (firsts_behind bytes_eq es xs)) ≡ false
+      is_some (lookup (bytes_eq name) (firsts_after bytes_eq es xs)) ≡ false
   firsts_other [] es h k = k
   firsts_other (x ∷ xs) es h k =
       let p = or_parts (bytes_eq name x.0) (list_any (λ (e : List ℕ × V). bytes_eq name e.0) xs) h in
@@ -48,14 +48,14 @@ none_declared : (name : List ℕ) (xs : List StmtTree) (now : Option (List ℕ))
 none_declared name [] now n h = refl
 none_declared name (x ∷ xs) now n h =
     let p = or_parts (begins_block name x.body) (has_block xs name) h in
-    by x.body p.0 (none_declared name xs (inside_behind now x.body) (n + 1) p.1)
+    by x.body p.0 (none_declared name xs (inside_next now x.body) (n + 1) p.1)
   where
     by : (b : BodyTree) → begins_block name b ≡ false →
-        list_any (λ (e : List ℕ × Block). bytes_eq name e.0) (declared_from block_of (inside_behind now x.body) (numbered_from (n + 1) (map Some xs))) ≡ false →
+        list_any (λ (e : List ℕ × Block). bytes_eq name e.0) (declared_from block_of (inside_next now x.body) (numbered_from (n + 1) (map Some xs))) ≡ false →
         list_any (λ (e : List ℕ × Block). bytes_eq name e.0)
-        (cons_option (block_of_body n b) (declared_from block_of (inside_behind now x.body) (numbered_from (n + 1) (map Some xs)))) ≡ false
-    by (procedure own uses) e f = ap (λ t. t || list_any (λ (e : List ℕ × Block). bytes_eq name e.0) (declared_from block_of (inside_behind now x.body) (numbered_from (n + 1) (map Some xs)))) e ∙ f
-    by (data_block own) e f = ap (λ t. t || list_any (λ (e : List ℕ × Block). bytes_eq name e.0) (declared_from block_of (inside_behind now x.body) (numbered_from (n + 1) (map Some xs)))) e ∙ f
+        (cons_option (block_of_body n b) (declared_from block_of (inside_next now x.body) (numbered_from (n + 1) (map Some xs)))) ≡ false
+    by (procedure own uses) e f = ap (λ t. t || list_any (λ (e : List ℕ × Block). bytes_eq name e.0) (declared_from block_of (inside_next now x.body) (numbered_from (n + 1) (map Some xs)))) e ∙ f
+    by (data_block own) e f = ap (λ t. t || list_any (λ (e : List ℕ × Block). bytes_eq name e.0) (declared_from block_of (inside_next now x.body) (numbered_from (n + 1) (map Some xs)))) e ∙ f
     by _ e f = f
 
 pub free_is_unknown : (name : List ℕ) (program : List StmtTree) → IsFree name program → IsUnknown name program

@@ -11,11 +11,11 @@ use Rattle.stapl_syntax.specs.declared.names.Block.{Block}
 use Rattle.stapl_syntax.specs.declared.names.Found.{Found}
 use Rattle.stapl_syntax.specs.declared.names.Found.TheVariants as found
 use Rattle.stapl_syntax.specs.Trees.{BodyTree, action, procedure, data_block, end_data, crc, StmtTree}
-use Rattle.stapl_syntax.specs.Names.{Names, numbered_from, numbered, inside_behind, inside_from, block_of_body, block_of, action_of, variable_of, label_of, declared_from, declared, put_first}
-use Rattle.stapl_syntax.specs.Names.{firsts_behind, firsts, key_eq, variable_number, found_in, blocks_seen, found_from, kind_of_found}
+use Rattle.stapl_syntax.specs.Names.{Names, numbered_from, numbered, inside_next, inside_from, block_of_body, block_of, action_of, variable_of, label_of, declared_from, declared, put_first}
+use Rattle.stapl_syntax.specs.Names.{firsts_after, firsts, key_eq, variable_number, found_in, blocks_seen, found_from, kind_of_found}
 use Rattle.stapl_syntax.specs.Rules.{is_crc}
 use Rattle.dev_card.specs.Padding.{BaseLengths}
-use Rattle.stapl_meaning.specs.Scopes.{data_behind, plays, idle, pieces_from, has_initial_value, Preset, preset_of, presets_from, program_names, as_played, number_found, lookup_from}
+use Rattle.stapl_meaning.specs.Scopes.{data_after, plays, idle, pieces_from, has_initial_value, Preset, preset_of, presets_from, program_names, as_played, number_found, lookup_from}
 use Rattle.stapl_meaning.proofs.Blocks.{data_from}
 use Rattle.stapl_meaning.proofs.Entries.{none_has_key, name_same}
 use Rattle.carried_plays.specs.CarriedPrograms.{padding_procedure, body_with_item, with_item, before_crc, from_crc, IsEnd, carried_with}
@@ -41,11 +41,11 @@ cons_both (Some x) xs ys = refl
 -- pieces and initial values of statements one after another
 pub pieces_plain : (xs ys : List StmtTree) (now : Option (List ℕ)) → pieces_from now (xs ++ ys) ≡ pieces_from now xs ++ pieces_from (data_from now xs) ys
 pieces_plain [] ys now = refl
-pieces_plain (x ∷ xs) ys now = ap (λ t. (if plays now x.body then x else idle) ∷ t) (pieces_plain xs ys (data_behind now x.body))
+pieces_plain (x ∷ xs) ys now = ap (λ t. (if plays now x.body then x else idle) ∷ t) (pieces_plain xs ys (data_after now x.body))
 
 pub presets_plain : (xs ys : List StmtTree) (now : Option (List ℕ)) → presets_from now (xs ++ ys) ≡ presets_from now xs ++ presets_from (data_from now xs) ys
 presets_plain [] ys now = refl
-presets_plain (x ∷ xs) ys now = ap (λ t. preset_of now x.body ∷ t) (presets_plain xs ys (data_behind now x.body))
+presets_plain (x ∷ xs) ys now = ap (λ t. preset_of now x.body ∷ t) (presets_plain xs ys (data_after now x.body))
 
 module _ {K V : Type 0} (declares : Option (List ℕ) → ℕ → StmtTree → Option (K × V)) where
   pub declared_plain : (xs ys : List StmtTree) (now : Option (List ℕ)) (n : ℕ)
@@ -56,7 +56,7 @@ module _ {K V : Type 0} (declares : Option (List ℕ) → ℕ → StmtTree → O
   declared_plain (x ∷ xs) ys now n =
       let e : n + 1 + length xs ≡ n + suc (length xs) = omega arith in
       let o : Option (K × V) = declares now n x in
-      let next : Option (List ℕ) = inside_behind now x.body in
+      let next : Option (List ℕ) = inside_next now x.body in
       let rest : List (K × V) = declared_from declares next (numbered_from (n + 1) (map Some xs)) in
       ap (cons_option o) (declared_plain xs ys next (n + 1))
       ∙ cons_both o rest (declared_from declares (inside_from next (numbered_from (n + 1) (map Some xs))) (numbered_from (n + 1 + length xs) (map Some ys)))
@@ -69,11 +69,11 @@ module _ (name : List ℕ) where
   plays_stays None _ = refl
   plays_stays (Some block) b = refl
 
-  data_stays : (now : Option (List ℕ)) (b : BodyTree) → data_behind now (body_with_item name b) ≡ data_behind now b
+  data_stays : (now : Option (List ℕ)) (b : BodyTree) → data_after now (body_with_item name b) ≡ data_after now b
   data_stays now (action own text items) = refl
   data_stays now _ = refl
 
-  inside_stays : (now : Option (List ℕ)) (b : BodyTree) → inside_behind now (body_with_item name b) ≡ inside_behind now b
+  inside_stays : (now : Option (List ℕ)) (b : BodyTree) → inside_next now (body_with_item name b) ≡ inside_next now b
   inside_stays now (action own text items) = refl
   inside_stays now _ = refl
 
@@ -89,27 +89,27 @@ module _ (name : List ℕ) where
   pub pieces_with : (xs : List StmtTree) (now : Option (List ℕ)) → pieces_from now (map (with_item name) xs) ≡ map (with_item name) (pieces_from now xs)
   pieces_with [] now = refl
   pieces_with (x ∷ xs) now =
-      ap (λ b. (if b then with_item name x else idle) ∷ pieces_from (data_behind now (body_with_item name x.body)) (map (with_item name) xs)) (plays_stays now x.body)
-      ∙ ap (λ y. y ∷ pieces_from (data_behind now (body_with_item name x.body)) (map (with_item name) xs)) (piece_of (plays now x.body) x)
+      ap (λ b. (if b then with_item name x else idle) ∷ pieces_from (data_after now (body_with_item name x.body)) (map (with_item name) xs)) (plays_stays now x.body)
+      ∙ ap (λ y. y ∷ pieces_from (data_after now (body_with_item name x.body)) (map (with_item name) xs)) (piece_of (plays now x.body) x)
       ∙ ap (λ o. with_item name (if plays now x.body then x else idle) ∷ pieces_from o (map (with_item name) xs)) (data_stays now x.body)
-      ∙ ap (λ t. with_item name (if plays now x.body then x else idle) ∷ t) (pieces_with xs (data_behind now x.body))
+      ∙ ap (λ t. with_item name (if plays now x.body then x else idle) ∷ t) (pieces_with xs (data_after now x.body))
 
   pub data_with : (xs : List StmtTree) (now : Option (List ℕ)) → data_from now (map (with_item name) xs) ≡ data_from now xs
   data_with [] now = refl
-  data_with (x ∷ xs) now = ap (λ o. data_from o (map (with_item name) xs)) (data_stays now x.body) ∙ data_with xs (data_behind now x.body)
+  data_with (x ∷ xs) now = ap (λ o. data_from o (map (with_item name) xs)) (data_stays now x.body) ∙ data_with xs (data_after now x.body)
 
   pub presets_with : (xs : List StmtTree) (now : Option (List ℕ)) → presets_from now (map (with_item name) xs) ≡ presets_from now xs
   presets_with [] now = refl
   presets_with (x ∷ xs) now =
-      ap (λ o. o ∷ presets_from (data_behind now (body_with_item name x.body)) (map (with_item name) xs)) (preset_stays now x.body)
+      ap (λ o. o ∷ presets_from (data_after now (body_with_item name x.body)) (map (with_item name) xs)) (preset_stays now x.body)
       ∙ ap (λ o. preset_of now x.body ∷ presets_from o (map (with_item name) xs)) (data_stays now x.body)
-      ∙ ap (λ t. preset_of now x.body ∷ t) (presets_with xs (data_behind now x.body))
+      ∙ ap (λ t. preset_of now x.body ∷ t) (presets_with xs (data_after now x.body))
 
   pub inside_with : (xs : List StmtTree) (now : Option (List ℕ)) (n : ℕ)
       → inside_from now (numbered_from n (map Some (map (with_item name) xs))) ≡ inside_from now (numbered_from n (map Some xs))
   inside_with [] now n = refl
   inside_with (x ∷ xs) now n =
-      ap (λ o. inside_from o (numbered_from (n + 1) (map Some (map (with_item name) xs)))) (inside_stays now x.body) ∙ inside_with xs (inside_behind now x.body) (n + 1)
+      ap (λ o. inside_from o (numbered_from (n + 1) (map Some (map (with_item name) xs)))) (inside_stays now x.body) ∙ inside_with xs (inside_next now x.body) (n + 1)
 
   module _ {K V : Type 0} (declares : Option (List ℕ) → ℕ → StmtTree → Option (K × V))
       (stays : (now : Option (List ℕ)) (n : ℕ) (st : StmtTree) → declares now n (with_item name st) ≡ declares now n st) where
@@ -117,9 +117,9 @@ module _ (name : List ℕ) where
         → declared_from declares now (numbered_from n (map Some (map (with_item name) xs))) ≡ declared_from declares now (numbered_from n (map Some xs))
     declared_with [] now n = refl
     declared_with (x ∷ xs) now n =
-        ap (λ o. cons_option o (declared_from declares (inside_behind now (body_with_item name x.body)) (numbered_from (n + 1) (map Some (map (with_item name) xs))))) (stays now n x)
+        ap (λ o. cons_option o (declared_from declares (inside_next now (body_with_item name x.body)) (numbered_from (n + 1) (map Some (map (with_item name) xs))))) (stays now n x)
         ∙ ap (λ o. cons_option (declares now n x) (declared_from declares o (numbered_from (n + 1) (map Some (map (with_item name) xs))))) (inside_stays now x.body)
-        ∙ ap (cons_option (declares now n x)) (declared_with xs (inside_behind now x.body) (n + 1))
+        ∙ ap (cons_option (declares now n x)) (declared_with xs (inside_next now x.body) (n + 1))
 
   same_block : (n : ℕ) (b : BodyTree) → block_of_body n (body_with_item name b) ≡ block_of_body n b
   same_block n (action own text items) = refl
@@ -175,9 +175,9 @@ end_presets (st ∷ []) h = refl
 -- ---- lists of first entries
 
 module _ {K V : Type 0} (eq : K → K → Bool) where
-  behind_join : (xs ys es : List (K × V)) → firsts_behind eq es (xs ++ ys) ≡ firsts_behind eq (firsts_behind eq es xs) ys
-  behind_join [] ys es = refl
-  behind_join (x ∷ xs) ys es = behind_join xs ys (put_first eq es x)
+  after_join : (xs ys es : List (K × V)) → firsts_after eq es (xs ++ ys) ≡ firsts_after eq (firsts_after eq es xs) ys
+  after_join [] ys es = refl
+  after_join (x ∷ xs) ys es = after_join xs ys (put_first eq es x)
 
 lookup_more : (own name : List ℕ) (es : List (List ℕ × Block)) (b : Block) → bytes_eq own name ≡ false → lookup (bytes_eq own) (es ++ ((name, b) ∷ [])) ≡ lookup (bytes_eq own) es
 lookup_more own name [] b h = ap (λ t. cond t (Some b) None) h
@@ -243,8 +243,8 @@ not_named : (name : List ℕ) (xs : List StmtTree) (now : Option (List ℕ)) (n 
     → list_any (λ (e : List ℕ × Block). bytes_eq name e.0) (declared_from block_of now (numbered_from n (map Some xs))) ≡ false → EachBody (NotNamed name) xs
 not_named name [] now n h = tt
 not_named name (x ∷ xs) now n h =
-    let p = parts (declared_from block_of (inside_behind now x.body) (numbered_from (n + 1) (map Some xs))) x.body h in
-    (p.0, not_named name xs (inside_behind now x.body) (n + 1) p.1)
+    let p = parts (declared_from block_of (inside_next now x.body) (numbered_from (n + 1) (map Some xs))) x.body h in
+    (p.0, not_named name xs (inside_next now x.body) (n + 1) p.1)
   where
     parts : (later : List (List ℕ × Block)) (b : BodyTree) → list_any (λ (e : List ℕ × Block). bytes_eq name e.0) (cons_option (block_of_body n b) later) ≡ false
         → NotNamed name b × (list_any (λ (e : List ℕ × Block). bytes_eq name e.0) later ≡ false)
@@ -255,7 +255,7 @@ not_named name (x ∷ xs) now n h =
 -- what holds of each statement, and of an idle one, holds of each piece
 each_piece : (P : BodyTree → Type 0) → P end_data → (xs : List StmtTree) (now : Option (List ℕ)) → EachBody P xs → EachBody P (pieces_from now xs)
 each_piece P none [] now h = tt
-each_piece P none (x ∷ xs) now h = (by (plays now x.body), each_piece P none xs (data_behind now x.body) h.1)
+each_piece P none (x ∷ xs) now h = (by (plays now x.body), each_piece P none xs (data_after now x.body) h.1)
   where
     by : (b : Bool) → P (if b then x else idle).body
     by true = h.0
@@ -265,7 +265,7 @@ each_part : (P : BodyTree → Type 0) (xs ys : List StmtTree) → EachBody P (xs
 each_part P [] ys h = (tt, h)
 each_part P (x ∷ xs) ys h = let p = each_part P xs ys h.1 in ((h.0, p.0), p.1)
 
-other_data : (name : List ℕ) (now : Option (List ℕ)) (b : BodyTree) → NotNamed name b → IsOther name now → IsOther name (data_behind now b)
+other_data : (name : List ℕ) (now : Option (List ℕ)) (b : BodyTree) → NotNamed name b → IsOther name now → IsOther name (data_after now b)
 other_data name now (data_block p) h o = h
 other_data name now end_data h o = tt
 other_data name now _ h o = o
@@ -282,7 +282,7 @@ more_others name (Some block) b presets o h = by (has_initial_value b)
 other_presets : (name : List ℕ) (xs : List StmtTree) (now : Option (List ℕ)) → EachBody (NotNamed name) xs → IsOther name now → AreOthers name (given (presets_from now xs))
 other_presets name [] now h o = tt
 other_presets name (x ∷ xs) now h o =
-    more_others name now x.body (given (presets_from (data_behind now x.body) xs)) o (other_presets name xs (data_behind now x.body) h.1 (other_data name now x.body h.0 o))
+    more_others name now x.body (given (presets_from (data_after now x.body) xs)) o (other_presets name xs (data_after now x.body) h.1 (other_data name now x.body h.0 o))
 
 -- How a program ends: with its CRC, or without one, and before it no block is open.
 pub record EndsWell (program : List StmtTree) : Type 0 where
@@ -384,7 +384,7 @@ module _ (name : List ℕ) (base : BaseLengths) (end program : List StmtTree) (h
       ap (firsts bytes_eq)
       (declared_new block_of (λ n k label. refl) (blocks_stay name) more (ap (cons_option (Some (name, new_block))) (end_declares block_of (λ n k label. refl) end n6 closes))
       ∙ ap (λ t. t ++ more) (sym (declared_old block_of (λ n k label. refl))))
-      ∙ behind_join bytes_eq old more [] ∙ ap (λ t. if t then firsts bytes_eq old else firsts bytes_eq old ++ more) free
+      ∙ after_join bytes_eq old more [] ∙ ap (λ t. if t then firsts bytes_eq old else firsts bytes_eq old ++ more) free
 
   pub names_new : program_names new ≡ record (program_names program) { blocks = (program_names program).blocks ++ ((name, new_block) ∷ []) }
   names_new = λ j. record {

@@ -12,7 +12,7 @@ use Rattle.stapl_syntax.specs.declared.names.Key.{Key}
 use Rattle.stapl_syntax.specs.Trees.{BodyTree, action, procedure, data_block, end_data, end_procedure, StmtTree}
 use Rattle.stapl_syntax.specs.Statements.{is_outer, begins_procedure}
 use Rattle.stapl_syntax.specs.Rules.{is_action}
-use Rattle.stapl_syntax.specs.Names.{Names, numbered_from, inside_behind, inside_from, key_in, key_eq}
+use Rattle.stapl_syntax.specs.Names.{Names, numbered_from, inside_next, inside_from, key_in, key_eq}
 use Rattle.stapl_meaning.specs.Scopes.{block_at, label_from, procedures_in, procedure_before, procedure_number, entry_from}
 use Rattle.canonical_text.specs.Examples.{bare_statement}
 use Rattle.carried_plays.specs.CarriedPrograms.{body_with_item, with_item}
@@ -42,7 +42,7 @@ module _ (name : List ℕ) where
   begins_stays (action own text items) = refl
   begins_stays _ = refl
 
-  inside_stays : (now : Option (List ℕ)) (b : BodyTree) → inside_behind now (body_with_item name b) ≡ inside_behind now b
+  inside_stays : (now : Option (List ℕ)) (b : BodyTree) → inside_next now (body_with_item name b) ≡ inside_next now b
   inside_stays now (action own text items) = refl
   inside_stays now _ = refl
 
@@ -70,7 +70,7 @@ module _ (name : List ℕ) where
   inside_kept (x ∷ front) tail rest zero st n now h e f = refl
   inside_kept (x ∷ front) tail rest (suc i) st n now h e f =
       ap (λ o. inside_from o (numbered_from (n + 1) (take i (map Some (map (with_item name) front ++ rest))))) (inside_stays now x.body)
-      ∙ inside_kept front tail rest i st (n + 1) (inside_behind now x.body) h e f
+      ∙ inside_kept front tail rest i st (n + 1) (inside_next now x.body) h e f
 
   pub block_kept : (front tail rest : List StmtTree) (i : ℕ) (st : StmtTree) → EachBody IsApart tail → slice_get (front ++ tail) i ≡ Some st → is_outer st.body ≡ false
       → block_at (map (with_item name) front ++ rest) i ≡ block_at (front ++ tail) i
@@ -81,17 +81,17 @@ module _ (name : List ℕ) where
   IsOther None = Unit {0}
   IsOther (Some own) = bytes_eq name own ≡ false
 
-  other_behind : (now : Option (List ℕ)) (b : BodyTree) → NotNamed name b → IsOther now → IsOther (inside_behind now b)
-  other_behind now (procedure p uses) h o = h
-  other_behind now (data_block p) h o = h
-  other_behind now end_procedure h o = tt
-  other_behind now end_data h o = tt
-  other_behind now _ h o = o
+  other_after : (now : Option (List ℕ)) (b : BodyTree) → NotNamed name b → IsOther now → IsOther (inside_next now b)
+  other_after now (procedure p uses) h o = h
+  other_after now (data_block p) h o = h
+  other_after now end_procedure h o = tt
+  other_after now end_data h o = tt
+  other_after now _ h o = o
 
   other_from : (xs : List StmtTree) (i n : ℕ) (now : Option (List ℕ)) → EachBody (NotNamed name) xs → IsOther now → IsOther (inside_from now (numbered_from n (take i (map Some xs))))
   other_from xs zero n now h o = o
   other_from [] (suc i) n now h o = o
-  other_from (x ∷ xs) (suc i) n now h o = other_from xs i (n + 1) (inside_behind now x.body) h.1 (other_behind now x.body h.0 o)
+  other_from (x ∷ xs) (suc i) n now h o = other_from xs i (n + 1) (inside_next now x.body) h.1 (other_after now x.body h.0 o)
 
   pub other_block : (xs : List StmtTree) (i : ℕ) → EachBody (NotNamed name) xs → IsOther (block_at xs i)
   other_block xs i h = other_from xs i 1 None h tt
@@ -181,11 +181,11 @@ module _ (name : List ℕ) where
       let more : suc (length front + 1) ≡ suc (length front) + 1 = omega arith in
       entry_by (begins_procedure x.body) (with_item name x) new (procedures_in front) (length front + 1) (begins_stays x.body) (new_entry front rest) ∙ more
 
-  -- the pieces behind those of the program
-  pub behind_front : (front ys : List StmtTree) (i k : ℕ) → i ≡ length front + k → slice_get (map (with_item name) front ++ ys) i ≡ slice_get ys k
-  behind_front [] ys i k e = let f : i ≡ k = omega arith in ap (slice_get ys) f
-  behind_front (x ∷ front) ys zero k e = absurd (omega arith)
-  behind_front (x ∷ front) ys (suc i) k e = behind_front front ys i k (omega arith)
+  -- the pieces after those of the program
+  pub after_front : (front ys : List StmtTree) (i k : ℕ) → i ≡ length front + k → slice_get (map (with_item name) front ++ ys) i ≡ slice_get ys k
+  after_front [] ys i k e = let f : i ≡ k = omega arith in ap (slice_get ys) f
+  after_front (x ∷ front) ys zero k e = absurd (omega arith)
+  after_front (x ∷ front) ys (suc i) k e = after_front front ys i k (omega arith)
 
 -- labels that are found
 label_found : (o : Option ℕ) (f : ℕ → ℕ) (n m : ℕ) → option_map_or f o n < n → option_map_or f o m ≡ option_map_or f o n

@@ -17,7 +17,7 @@ use Rattle.stapl_syntax.specs.declared.names.Kind.TheVariants.{Int, Either}
 use Rattle.stapl_lexer.specs.declared.terminal.Padding.{Padding}
 use Rattle.stapl_lexer.specs.declared.terminal.Padding.TheVariants as paddings
 use Rattle.stapl_syntax.specs.Trees.{BodyTree, action, procedure, crc, end_procedure, StmtTree}
-use Rattle.stapl_syntax.specs.Names.{Names, Numbered, numbered_from, numbered, inside_behind, inside_from, inside_after, block_of, action_of, variable_of, label_of, firsts, key_eq, names_of}
+use Rattle.stapl_syntax.specs.Names.{Names, Numbered, numbered_from, numbered, inside_next, inside_from, inside_after, block_of, action_of, variable_of, label_of, firsts, key_eq, names_of}
 use Rattle.stapl_syntax.specs.Names.{block_named, found_from, kind_of_found, has_label}
 use Rattle.stapl_syntax.specs.Kinds.{is_int, number_kind, operands_suit}
 use Rattle.stapl_syntax.specs.Mentions.{variables_named, procedures_named, blocks_used, labels_named, item_name}
@@ -230,7 +230,7 @@ module _ (name : List ℕ) (names : Names) (b : Block) (plain : b.is_data ≡ fa
         ∙ ap (λ (k : List ℕ → Option VarKind). list_all (λ sought. not (is_data_block (block_named names sought))) (procedures_named body) && operands_suit k (body_with_item name body)) kind_is
         ∙ ap (λ t. list_all (λ sought. not (is_data_block (block_named names sought))) (procedures_named body) && t) (suits_same name known_old.kind body)
 
-  -- a statement with its new items, behind statements with theirs
+  -- a statement with its new items, after statements with theirs
   module _ (before : List StmtTree) (other : IsOther name (inside_after (numbered_from 1 (map Some before)))) where
     abbrev N : List Numbered
     N = numbered_from 1 (map Some before)
@@ -338,8 +338,8 @@ inside_join : (xs ys : List StmtTree) (now : Option (List ℕ)) (n : ℕ)
 inside_join [] ys now n = let e : n ≡ n + 0 = omega arith in ap (λ m. inside_from now (numbered_from m (map Some ys))) e
 inside_join (x ∷ xs) ys now n =
     let e : n + 1 + length xs ≡ n + suc (length xs) = omega arith in
-    inside_join xs ys (inside_behind now x.body) (n + 1)
-    ∙ ap (λ m. inside_from (inside_from (inside_behind now x.body) (numbered_from (n + 1) (map Some xs))) (numbered_from m (map Some ys))) e
+    inside_join xs ys (inside_next now x.body) (n + 1)
+    ∙ ap (λ m. inside_from (inside_from (inside_next now x.body) (numbered_from (n + 1) (map Some xs))) (numbered_from m (map Some ys))) e
 
 or_join : (a b c : Bool) → (a || (b || c)) ≡ ((a || b) || c)
 or_join true b c = refl
@@ -376,7 +376,7 @@ end_opens_none [] n h = refl
 end_opens_none (st ∷ x ∷ rest) n h = absurd h
 end_opens_none (st ∷ []) n h = by st.body h
   where
-    by : (b : BodyTree) → is_crc b ≡ true → inside_behind None b ≡ None
+    by : (b : BodyTree) → is_crc b ≡ true → inside_next None b ≡ None
     by (crc k) e = refl
     by _ e = absurd (false≢true e)
 
@@ -404,13 +404,13 @@ module _ (name : List ℕ) (base : BaseLengths) (end program : List StmtTree) (h
   abbrev names2 : Names
   names2 = record names { blocks = names.blocks ++ ((name, fresh_block) ∷ []) }
 
-  -- the facts behind these statements
-  abbrev facts_behind : List StmtTree → Facts
-  facts_behind before = facts_after names2 (numbered_from 1 (map Some before))
+  -- the facts after these statements
+  abbrev facts_next : List StmtTree → Facts
+  facts_next before = facts_after names2 (numbered_from 1 (map Some before))
 
-  -- behind the program, and some statements of the new procedure
+  -- after the program, and some statements of the new procedure
   abbrev facts_in_new : List StmtTree → Facts
-  facts_in_new ys = facts_behind (front_with ++ ys)
+  facts_in_new ys = facts_next (front_with ++ ys)
 
   opens : (ys : List StmtTree) → (facts_in_new ys).inside ≡ inside_from None (numbered_from (1 + length front_with) (map Some ys))
   opens ys =
@@ -439,31 +439,31 @@ module _ (name : List ℕ) (base : BaseLengths) (end program : List StmtTree) (h
       ∙ ap (λ es. is_some (lookup (bytes_eq name) (firsts bytes_eq es))) (sym (declared_old name base end program h closes free block_of (λ n k label. refl)))
       ∙ free
 
-  -- the statement at a place behind the program
-  behind : (i : ℕ) (st : StmtTree) (reason : Reason) → slice_get (six ++ end) i ≡ Some st → breaks (facts_in_new (take i (six ++ end))) st reason ≡ false
-  behind zero st reason at =
+  -- the statement at a place after the program
+  after : (i : ℕ) (st : StmtTree) (reason : Reason) → slice_get (six ++ end) i ≡ Some st → breaks (facts_in_new (take i (six ++ end))) st reason ≡ false
+  after zero st reason at =
       subst (λ (s : StmtTree). breaks (facts_in_new []) s reason ≡ false) (same_Some (bare_statement (procedure name None)) st at)
       (new_keeps (facts_in_new []) name reason (outside_procedure [] refl) (outside_data [] refl) (no_crc [] refl) not_yet)
-  behind (suc zero) st reason at =
+  after (suc zero) st reason at =
       let ys : List StmtTree = take 1 (six ++ end) in
       subst (λ (s : StmtTree). breaks (facts_in_new ys) s reason ≡ false) (same_Some (ones_padding paddings.PreInstruction base.ir_pre) st at)
       (pad_keeps (facts_in_new ys) paddings.PreInstruction base.ir_pre reason (in_new ys refl))
-  behind (suc (suc zero)) st reason at =
+  after (suc (suc zero)) st reason at =
       let ys : List StmtTree = take 2 (six ++ end) in
       subst (λ (s : StmtTree). breaks (facts_in_new ys) s reason ≡ false) (same_Some (ones_padding paddings.PostInstruction base.ir_post) st at)
       (pad_keeps (facts_in_new ys) paddings.PostInstruction base.ir_post reason (in_new ys refl))
-  behind (suc (suc (suc zero))) st reason at =
+  after (suc (suc (suc zero))) st reason at =
       let ys : List StmtTree = take 3 (six ++ end) in
       subst (λ (s : StmtTree). breaks (facts_in_new ys) s reason ≡ false) (same_Some (ones_padding paddings.PreData base.dr_pre) st at)
       (pad_keeps (facts_in_new ys) paddings.PreData base.dr_pre reason (in_new ys refl))
-  behind (suc (suc (suc (suc zero)))) st reason at =
+  after (suc (suc (suc (suc zero)))) st reason at =
       let ys : List StmtTree = take 4 (six ++ end) in
       subst (λ (s : StmtTree). breaks (facts_in_new ys) s reason ≡ false) (same_Some (ones_padding paddings.PostData base.dr_post) st at)
       (pad_keeps (facts_in_new ys) paddings.PostData base.dr_post reason (in_new ys refl))
-  behind (suc (suc (suc (suc (suc zero))))) st reason at =
+  after (suc (suc (suc (suc (suc zero))))) st reason at =
       let ys : List StmtTree = take 5 (six ++ end) in
       subst (λ (s : StmtTree). breaks (facts_in_new ys) s reason ≡ false) (same_Some (bare_statement end_procedure) st at) (end_keeps (facts_in_new ys) reason (in_new ys refl))
-  behind (suc (suc (suc (suc (suc (suc i)))))) st reason at = at_end end i closes at
+  after (suc (suc (suc (suc (suc (suc i)))))) st reason at = at_end end i closes at
     where
       at_end : (tail : List StmtTree) (i : ℕ) → IsEnd tail → slice_get tail i ≡ Some st → breaks (facts_in_new (six ++ take i tail)) st reason ≡ false
       at_end [] i e at = absurd (none-some st at)
@@ -475,10 +475,10 @@ module _ (name : List ℕ) (base : BaseLengths) (end program : List StmtTree) (h
 
   -- each statement, where the program is cut
   each : (before rest : List StmtTree) → front ≡ before ++ rest → (i : ℕ) (st : StmtTree) (reason : Reason) → slice_get (map (with_item name) rest ++ (six ++ end)) i ≡ Some st
-      → breaks (facts_behind (map (with_item name) before ++ take i (map (with_item name) rest ++ (six ++ end)))) st reason ≡ false
+      → breaks (facts_next (map (with_item name) before ++ take i (map (with_item name) rest ++ (six ++ end)))) st reason ≡ false
   each before [] e i st reason at =
       let all : front ≡ before = e ∙ append-nil before in
-      subst (λ (xs : List StmtTree). breaks (facts_behind (map (with_item name) xs ++ take i (six ++ end))) st reason ≡ false) all (behind i st reason at)
+      subst (λ (xs : List StmtTree). breaks (facts_next (map (with_item name) xs ++ take i (six ++ end))) st reason ≡ false) all (after i st reason at)
   each before (x ∷ rest) e zero st reason at =
       let whole : program ≡ before ++ (x ∷ (rest ++ from_crc program)) =
       split_at_crc program ∙ ap (λ t. t ++ from_crc program) e ∙ append_assoc before (x ∷ rest) (from_crc program) in
@@ -489,13 +489,13 @@ module _ (name : List ℕ) (base : BaseLengths) (end program : List StmtTree) (h
       subst (λ t. IsOther name (inside_after (numbered_from 1 t))) here (other_block name program n (not_named_old name base end program h closes free)) in
       let old : breaks (facts_after names (numbered_from 1 (map Some before))) x reason ≡ false =
       subst (λ t. breaks (facts_after names (numbered_from 1 t)) x reason ≡ false) here (holds.keeps n x reason found) in
-      subst (λ (s : StmtTree). breaks (facts_behind (map (with_item name) before ++ [])) s reason ≡ false) (same_Some (with_item name x) st at)
-      (subst (λ (xs : List StmtTree). breaks (facts_behind xs) (with_item name x) reason ≡ false) (sym (append-nil (map (with_item name) before)))
+      subst (λ (s : StmtTree). breaks (facts_next (map (with_item name) before ++ [])) s reason ≡ false) (same_Some (with_item name x) st at)
+      (subst (λ (xs : List StmtTree). breaks (facts_next xs) (with_item name x) reason ≡ false) (sym (append-nil (map (with_item name) before)))
       (still_keeps name names fresh_block refl free before other x reason old))
   each before (x ∷ rest) e (suc i) st reason at =
       let y : StmtTree = with_item name x in
       let more : List StmtTree = take i (map (with_item name) rest ++ (six ++ end)) in
-      subst (λ (xs : List StmtTree). breaks (facts_behind xs) st reason ≡ false)
+      subst (λ (xs : List StmtTree). breaks (facts_next xs) st reason ≡ false)
       (ap (λ t. t ++ more) (map-append (with_item name) before (x ∷ [])) ∙ append_assoc (map (with_item name) before) (y ∷ []) more)
       (each (before ++ (x ∷ [])) rest (e ∙ sym (append_assoc before (x ∷ []) rest)) i st reason at)
 

@@ -42,17 +42,17 @@ no_crc : (name : List ℕ) (b : BodyTree) → is_crc (body_with_item name b) ≡
 no_crc name (action own text items) = refl
 no_crc name _ = refl
 
--- the bytes before what stands behind the pieces before a CRC
-abbrev bytes_behind : List ℕ → List StmtTree → List ℕ
-bytes_behind before [] = before
-bytes_behind before (st ∷ sts) = bytes_behind (before ++ line (checked before st)) sts
+-- the bytes before what stands after the pieces before a CRC
+abbrev bytes_after : List ℕ → List StmtTree → List ℕ
+bytes_after before [] = before
+bytes_after before (st ∷ sts) = bytes_after (before ++ line (checked before st)) sts
 
 -- statements that are no CRC keep their values
 abbrev HaveNoCrc : List StmtTree → Type 0
 HaveNoCrc [] = Unit {0}
 HaveNoCrc (st ∷ sts) = (is_crc st.body ≡ false) × HaveNoCrc sts
 
-checked_join : (before : List ℕ) (xs ys : List StmtTree) → HaveNoCrc xs → checked_from before (xs ++ ys) ≡ xs ++ checked_from (bytes_behind before xs) ys
+checked_join : (before : List ℕ) (xs ys : List StmtTree) → HaveNoCrc xs → checked_from before (xs ++ ys) ≡ xs ++ checked_from (bytes_after before xs) ys
 checked_join before [] ys h = refl
 checked_join before (x ∷ xs) ys h =
     ap (λ (st : StmtTree). st ∷ checked_from (before ++ line (checked before x)) (xs ++ ys)) (checked_other before x.label x.body h.0)
@@ -87,10 +87,10 @@ checked_carried name base program ends =
     let front : List StmtTree = map (with_item name) (before_crc program) in
     let six : List StmtTree = padding_procedure name base in
     let tail : List StmtTree = from_crc program in
-    let before : List ℕ = bytes_behind [] front in
+    let before : List ℕ = bytes_after [] front in
     record {
-      end = checked_from (bytes_behind before six) tail;
-      closes = checked_end (bytes_behind before six) tail ends.end;
+      end = checked_from (bytes_after before six) tail;
+      closes = checked_end (bytes_after before six) tail ends.end;
       same = checked_join [] front (six ++ tail) (front_has_none name program)
           ∙ ap (λ t. front ++ t) (checked_join before six tail (refl, (refl, (refl, (refl, (refl, (refl, tt)))))));
     }

@@ -20,15 +20,15 @@ first_index : (program : List StmtTree) → has_own_padding program ≡ true →
 first_index [] e = absurd (false≢true e)
 first_index (st ∷ rest) e = by (sets_padding st.body) refl (first_index rest)
   where
-    least_behind : (f : FirstIndex rest) → sets_padding st.body ≡ false → (i : ℕ) → i < suc f.index → sets_padding_at (st ∷ rest) i ≡ false
-    least_behind f g zero lt = g
-    least_behind f g (suc i) lt = f.least i (omega (arith, lt))
+    least_after : (f : FirstIndex rest) → sets_padding st.body ≡ false → (i : ℕ) → i < suc f.index → sets_padding_at (st ∷ rest) i ≡ false
+    least_after f g zero lt = g
+    least_after f g (suc i) lt = f.least i (omega (arith, lt))
 
     by : (b : Bool) → sets_padding st.body ≡ b → (has_own_padding rest ≡ true → FirstIndex rest) → FirstIndex (st ∷ rest)
     by true g go = record { index = 0; within = omega arith; sets = g; least = λ i lt. absurd (omega (arith, lt)) }
     by false g go =
         let f : FirstIndex rest = go (sym (ap (λ t. t || has_own_padding rest) g) ∙ e) in
-        record { index = suc f.index; within = omega (arith, f.within); sets = f.sets; least = least_behind f g }
+        record { index = suc f.index; within = omega (arith, f.within); sets = f.sets; least = least_after f g }
 
 pub first_padding : (program : List StmtTree) → has_own_padding program ≡ true → (n : ℕ) × (n ≤ length program) × IsFirstPadding program n
 first_padding program e =

@@ -18,7 +18,7 @@ use Rattle.stapl_meaning.specs.Plays.{goes_on, run}
 use Rattle.canonical_text.specs.Examples.{bare_statement}
 use Rattle.carried_plays.specs.CarriedPrograms.{ones_padding, padding_procedure, with_item}
 use Rattle.carried_plays.specs.CarriedRuns.{ones, padded_state}
-use Rattle.carried_plays.proofs.CarriedPieces.{behind_front}
+use Rattle.carried_plays.proofs.CarriedPieces.{after_front}
 
 within : (n : ℕ) → n ≤ 65536 → (int_le (pos 0) (pos n) && int_le (pos n) (pos padding_limit)) ≡ true
 within n h = and_from (nat_le 0 n) (nat_le n 65536) (le-leb 0 n (omega arith)) (le-leb n 65536 h)
@@ -50,7 +50,7 @@ module _ (name : List ℕ) (base : BaseLengths) (program : Played) (front tail :
     (is : program.pieces ≡ map (with_item name) front ++ (padding_procedure name base ++ tail))
     (a : base.ir_pre ≤ 65536) (b : base.ir_post ≤ 65536) (c : base.dr_pre ≤ 65536) (d : base.dr_post ≤ 65536) where
   at_place : (i j : ℕ) (st : StmtTree) → i ≡ length front + j → slice_get (padding_procedure name base ++ tail) j ≡ Some st → slice_get program.pieces i ≡ Some st
-  at_place i j st e f = ap (λ (ps : List StmtTree). slice_get ps i) is ∙ behind_front name front (padding_procedure name base ++ tail) i j e ∙ f
+  at_place i j st e f = ap (λ (ps : List StmtTree). slice_get ps i) is ∙ after_front name front (padding_procedure name base ++ tail) i j e ∙ f
 
   -- from the new procedure's first piece, in a state without records
   pub five_turns : (n i : ℕ) (s : State) (k : Chain) → i ≡ length front + 1 → s.records ≡ []

@@ -3,10 +3,10 @@ use Rattle.std.proofs.Common.{◌≡◌, ℕ, ◌+◌, ◌||◌, ◌&&◌, Bool,
 use Rattle.std.proofs.Common.{◌∙◌, append-nil, append_assoc}
 use Rattle.std.proofs.lemmas.Bool.{false≢true, true≢false, or_parts, and_parts, not-true}
 use Rattle.stapl_syntax.specs.Trees.{BodyTree, note, action, procedure, data_block, crc, end_data, end_procedure, StmtTree}
-use Rattle.stapl_syntax.specs.Names.{numbered_from, numbered, inside_behind, inside_from, declaration}
+use Rattle.stapl_syntax.specs.Names.{numbered_from, numbered, inside_next, inside_from, declaration}
 use Rattle.stapl_syntax.specs.Rules.{Place, is_outside, may_stand_inside, may_stand, is_crc, any_body, in_data_block}
 use Rattle.stapl_syntax.specs.Programs.{IsProgram}
-use Rattle.stapl_meaning.specs.Scopes.{data_behind, program_names, block_at}
+use Rattle.stapl_meaning.specs.Scopes.{data_after, program_names, block_at}
 use Rattle.stapl_meaning.proofs.Sound.{IsSound, sound}
 use Rattle.stapl_meaning.proofs.Declared.{block_here}
 use Rattle.stapl_meaning.proofs.Blocks.{data_from, IsAligned, none_open, aligned_next, place_at, stands_well, none_at}
@@ -26,13 +26,13 @@ at_front [] ys st = refl
 at_front (x ∷ xs) ys st = at_front xs ys st
 
 inside_one : (xs : List StmtTree) (st : StmtTree) (now : Option (List ℕ)) (n : ℕ)
-    → inside_from now (numbered_from n (map Some (xs ++ (st ∷ [])))) ≡ inside_behind (inside_from now (numbered_from n (map Some xs))) st.body
+    → inside_from now (numbered_from n (map Some (xs ++ (st ∷ [])))) ≡ inside_next (inside_from now (numbered_from n (map Some xs))) st.body
 inside_one [] st now n = refl
-inside_one (x ∷ xs) st now n = inside_one xs st (inside_behind now x.body) (n + 1)
+inside_one (x ∷ xs) st now n = inside_one xs st (inside_next now x.body) (n + 1)
 
-data_one : (xs : List StmtTree) (st : StmtTree) (now : Option (List ℕ)) → data_from now (xs ++ (st ∷ [])) ≡ data_behind (data_from now xs) st.body
+data_one : (xs : List StmtTree) (st : StmtTree) (now : Option (List ℕ)) → data_from now (xs ++ (st ∷ [])) ≡ data_after (data_from now xs) st.body
 data_one [] st now = refl
-data_one (x ∷ xs) st now = data_one xs st (data_behind now x.body)
+data_one (x ∷ xs) st now = data_one xs st (data_after now x.body)
 
 or_true : (b : Bool) → (b || true) ≡ true
 or_true true = refl
@@ -42,7 +42,7 @@ crc_seen : (xs : List StmtTree) (st : StmtTree) (n : ℕ) → is_crc st.body ≡
 crc_seen [] st n e = ap (λ b. b || false) e
 crc_seen (x ∷ xs) st n e = ap (λ b. is_crc x.body || b) (crc_seen xs st (n + 1) e) ∙ or_true (is_crc x.body)
 
--- behind a CRC nothing may stand
+-- after a CRC nothing may stand
 abbrev after_end : Bool → Bool → Place
 after_end a b = record { in_procedure = false; in_data = false; after_action = a; after_block = b; after_crc = true }
 
@@ -78,7 +78,7 @@ no_block : (o : Option (List ℕ)) → is_some o ≡ false → o ≡ None
 no_block None e = refl
 no_block (Some block) e = absurd (true≢false e)
 
-inside_crc : (now : Option (List ℕ)) (b : BodyTree) → is_crc b ≡ true → inside_behind now b ≡ now
+inside_crc : (now : Option (List ℕ)) (b : BodyTree) → is_crc b ≡ true → inside_next now b ≡ now
 inside_crc now (crc n) e = refl
 inside_crc now _ e = absurd (false≢true e)
 
@@ -152,13 +152,13 @@ module _ (program : List StmtTree) (h : IsSound program) where
       let m : ℕ = length front in
       let at : slice_get program m ≡ Some x = stands_at front (xs ++ ys) x e in
       let here : block_at program m ≡ inside_from None (numbered_from 1 (map Some front)) = at_place front (x ∷ (xs ++ ys)) e in
-      let next : IsAligned (program_names program) (data_behind (data_from None front) x.body) (inside_behind (inside_from None (numbered_from 1 (map Some front))) x.body) =
+      let next : IsAligned (program_names program) (data_after (data_from None front) x.body) (inside_next (inside_from None (numbered_from 1 (map Some front))) x.body) =
       aligned_next (program_names program) (place_at program h m) (data_from None front) (inside_from None (numbered_from 1 (map Some front))) x.label x.body (1 + m)
       (ap (in_data_block (program_names program)) here) (ap (λ o. is_some o && not (in_data_block (program_names program) o)) here)
       (stands_well program h m x at) (block_here program h m x at) al in
       let more : IsAligned (program_names program) (data_from None (front ++ (x ∷ []))) (inside_from None (numbered_from 1 (map Some (front ++ (x ∷ []))))) =
       subst (λ o. IsAligned (program_names program) o (inside_from None (numbered_from 1 (map Some (front ++ (x ∷ [])))))) (sym (data_one front x None))
-      (subst (IsAligned (program_names program) (data_behind (data_from None front) x.body)) (sym (inside_one front x None 1)) next) in
+      (subst (IsAligned (program_names program) (data_after (data_from None front) x.body)) (sym (inside_one front x None 1)) next) in
       subst (λ (fs : List StmtTree). IsAligned (program_names program) (data_from None fs) (inside_from None (numbered_from 1 (map Some fs)))) (append_assoc front (x ∷ []) xs)
       (aligned_up xs ys (front ++ (x ∷ [])) (e ∙ sym (append_assoc front (x ∷ []) (xs ++ ys))) more)
 

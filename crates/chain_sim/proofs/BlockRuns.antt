@@ -35,28 +35,28 @@ no_places_seen rack places tdi n r last e v =
     ap (λ ps. option_map (λ cs. board_block cs tdi n last) (cards_at rack ps)) e ∙ ap Some (block_of_nothing tdi n last ∙ sym v)
 
 -- the first place and the rest
-joined_block : (o : Option Card) (os : Option (List Card)) (tdi n behind : ℕ) (last : Bool) → IsSome (joined o os) →
-    option_map (λ cs. board_block cs tdi n last) os ≡ Some behind →
-    joined (option_map (λ c. card_after_block c behind n last) o) (option_map (λ cs. board_after_block cs tdi n last) os)
+joined_block : (o : Option Card) (os : Option (List Card)) (tdi n after : ℕ) (last : Bool) → IsSome (joined o os) →
+    option_map (λ cs. board_block cs tdi n last) os ≡ Some after →
+    joined (option_map (λ c. card_after_block c after n last) o) (option_map (λ cs. board_after_block cs tdi n last) os)
     ≡ option_map (λ cs. board_after_block cs tdi n last) (joined o os)
-joined_block None os tdi n behind last h e = absurd (false≢true h)
-joined_block (Some c) None tdi n behind last h e = absurd (false≢true h)
-joined_block (Some c) (Some cs) tdi n behind last h e =
+joined_block None os tdi n after last h e = absurd (false≢true h)
+joined_block (Some c) None tdi n after last h e = absurd (false≢true h)
+joined_block (Some c) (Some cs) tdi n after last h e =
     ap (λ x. Some (card_after_block c x n last ∷ board_after_block cs tdi n last)) (sym (same_Some _ _ e))
     ∙ ap Some (sym (shifts_card_by_card c cs tdi n last).board)
 
-joined_seen : (o : Option Card) (os : Option (List Card)) (tdi n behind r : ℕ) (last : Bool) → IsSome (joined o os) →
-    option_map (λ cs. board_block cs tdi n last) os ≡ Some behind → option_map (λ c. card_block c behind n last) o ≡ Some r →
+joined_seen : (o : Option Card) (os : Option (List Card)) (tdi n after r : ℕ) (last : Bool) → IsSome (joined o os) →
+    option_map (λ cs. board_block cs tdi n last) os ≡ Some after → option_map (λ c. card_block c after n last) o ≡ Some r →
     option_map (λ cs. board_block cs tdi n last) (joined o os) ≡ Some r
-joined_seen None os tdi n behind r last h e s = absurd (false≢true h)
-joined_seen (Some c) None tdi n behind r last h e s = absurd (false≢true h)
-joined_seen (Some c) (Some cs) tdi n behind r last h e s =
+joined_seen None os tdi n after r last h e s = absurd (false≢true h)
+joined_seen (Some c) None tdi n after r last h e s = absurd (false≢true h)
+joined_seen (Some c) (Some cs) tdi n after r last h e s =
     ap Some ((shifts_card_by_card c cs tdi n last).tdo) ∙ ap (λ x. Some (card_block c x n last)) (same_Some _ _ e) ∙ s
 
 module _ {A : Type 0} (f : A → Option SoundCard) (rack next : List A) (places : List ℕ) (p : ℕ) (ps : List ℕ) where
   -- what the devices after the first are to be
-  pub behind_fitted : places ≡ p ∷ ps → AreApart places → IsSome (cards_at (map f rack) places) → IsSome (cards_at (map f rack) ps) × AreApart ps
-  behind_fitted e a s =
+  pub after_fitted : places ≡ p ∷ ps → AreApart places → IsSome (cards_at (map f rack) places) → IsSome (cards_at (map f rack) ps) × AreApart ps
+  after_fitted e a s =
       let g : IsSome (cards_at (map f rack) (p ∷ ps)) = subst (λ z. IsSome (cards_at (map f rack) z)) e s in
       (rest_is_some (card_at (map f rack) p) (cards_at (map f rack) ps) g, (subst AreApart e a).1)
 
@@ -72,37 +72,37 @@ module _ {A : Type 0} (f : A → Option SoundCard) (rack next : List A) (places 
       let g : IsSome (cards_at (map f rack) (p ∷ ps)) = subst (λ z. IsSome (cards_at (map f rack) z)) e s in
       subst (λ o. IsSome o) (sym (first_stays e a stay)) (first_is_some (card_at (map f rack) p) (cards_at (map f rack) ps) g)
 
-  module _ (tdi n behind : ℕ) (last : Bool) where
+  module _ (tdi n after : ℕ) (last : Bool) where
     -- the others were shifted, and then the first
     pub all_shifted : (end : List A) → places ≡ p ∷ ps → AreApart places → IsSome (cards_at (map f rack) places) →
         ((k : ℕ) → IsAbsent k ps → slice_get next k ≡ slice_get rack k) →
         cards_at (map f next) ps ≡ option_map (λ cs. board_after_block cs tdi n last) (cards_at (map f rack) ps) →
-        option_map (λ cs. board_block cs tdi n last) (cards_at (map f rack) ps) ≡ Some behind →
-        card_at (map f end) p ≡ option_map (λ c. card_after_block c behind n last) (card_at (map f next) p) →
+        option_map (λ cs. board_block cs tdi n last) (cards_at (map f rack) ps) ≡ Some after →
+        card_at (map f end) p ≡ option_map (λ c. card_after_block c after n last) (card_at (map f next) p) →
         ((k : ℕ) → k ≢ p → slice_get end k ≡ slice_get next k) →
         cards_at (map f end) places ≡ option_map (λ cs. board_after_block cs tdi n last) (cards_at (map f rack) places)
     all_shifted end e a s stay cards seen card others =
         let b : AreApart (p ∷ ps) = subst AreApart e a in
         let g : IsSome (cards_at (map f rack) (p ∷ ps)) = subst (λ z. IsSome (cards_at (map f rack) z)) e s in
-        let here : card_at (map f end) p ≡ option_map (λ c. card_after_block c behind n last) (card_at (map f rack) p) =
-        card ∙ ap (λ o. option_map (λ c. card_after_block c behind n last) o) (first_stays e a stay) in
+        let here : card_at (map f end) p ≡ option_map (λ c. card_after_block c after n last) (card_at (map f rack) p) =
+        card ∙ ap (λ o. option_map (λ c. card_after_block c after n last) o) (first_stays e a stay) in
         let there : cards_at (map f end) ps ≡ option_map (λ cs. board_after_block cs tdi n last) (cards_at (map f rack) ps) =
         cards_kept f next end p ps b.0 others ∙ cards in
         let both : cards_at (map f end) (p ∷ ps) ≡ option_map (λ cs. board_after_block cs tdi n last) (cards_at (map f rack) (p ∷ ps)) =
-        ap (λ o. joined o (cards_at (map f end) ps)) here ∙ ap (joined (option_map (λ c. card_after_block c behind n last) (card_at (map f rack) p))) there
-        ∙ joined_block (card_at (map f rack) p) (cards_at (map f rack) ps) tdi n behind last g seen in
+        ap (λ o. joined o (cards_at (map f end) ps)) here ∙ ap (joined (option_map (λ c. card_after_block c after n last) (card_at (map f rack) p))) there
+        ∙ joined_block (card_at (map f rack) p) (cards_at (map f rack) ps) tdi n after last g seen in
         subst (λ z. cards_at (map f end) z ≡ option_map (λ cs. board_after_block cs tdi n last) (cards_at (map f rack) z)) (sym e) both
 
     pub all_seen : (r : ℕ) → places ≡ p ∷ ps → AreApart places → IsSome (cards_at (map f rack) places) →
         ((k : ℕ) → IsAbsent k ps → slice_get next k ≡ slice_get rack k) →
-        option_map (λ cs. board_block cs tdi n last) (cards_at (map f rack) ps) ≡ Some behind →
-        option_map (λ c. card_block c behind n last) (card_at (map f next) p) ≡ Some r →
+        option_map (λ cs. board_block cs tdi n last) (cards_at (map f rack) ps) ≡ Some after →
+        option_map (λ c. card_block c after n last) (card_at (map f next) p) ≡ Some r →
         option_map (λ cs. board_block cs tdi n last) (cards_at (map f rack) places) ≡ Some r
     all_seen r e a s stay seen first =
         let g : IsSome (cards_at (map f rack) (p ∷ ps)) = subst (λ z. IsSome (cards_at (map f rack) z)) e s in
         ap (λ z. option_map (λ cs. board_block cs tdi n last) (cards_at (map f rack) z)) e
-        ∙ joined_seen (card_at (map f rack) p) (cards_at (map f rack) ps) tdi n behind r last g seen
-        (ap (λ o. option_map (λ c. card_block c behind n last) o) (sym (first_stays e a stay)) ∙ first)
+        ∙ joined_seen (card_at (map f rack) p) (cards_at (map f rack) ps) tdi n after r last g seen
+        (ap (λ o. option_map (λ c. card_block c after n last) o) (sym (first_stays e a stay)) ∙ first)
 
   -- places absent from all are kept
   pub rest_stays : (end : List A) → places ≡ p ∷ ps → ((k : ℕ) → IsAbsent k ps → slice_get next k ≡ slice_get rack k) →

@@ -94,8 +94,8 @@ pub fn shift_all<D: Device>(rack: &mut Vec<D>, places: &[u32], tdi: u64, n: u32,
     match places.split_first() {
         None => lowest(tdi, n),
         Some((first, rest)) => {
-            let behind = shift_all(rack, rest, tdi, n, last);
-            shift_at(rack, *first as usize, behind, n, last)
+            let after = shift_all(rack, rest, tdi, n, last);
+            shift_at(rack, *first as usize, after, n, last)
         }
     }
 }

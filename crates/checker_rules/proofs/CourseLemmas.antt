@@ -7,14 +7,14 @@ use Rattle.std.proofs.lemmas.List.Folds.{list_any-append}
 use Rattle.std.proofs.lemmas.List.Sums.{sum_by-append, sum_by-cons}
 use Rattle.indexmap.proofs.MapLemmas.{some_index}
 use Rattle.stapl_syntax.specs.Trees.{BodyTree}
-use Rattle.stapl_syntax.specs.Names.{Names, Numbered, inside_behind, inside_from, inside_after, block_named}
+use Rattle.stapl_syntax.specs.Names.{Names, Numbered, inside_next, inside_from, inside_after, block_named}
 use Rattle.stapl_syntax.specs.Rules as rules
 use Rattle.stapl_syntax.specs.Rules.{is_action, is_block, is_crc, any_body, in_data_block, place_after, boolean_elements, integer_elements}
 use Rattle.stapl_names.specs.Tables.{block_name}
 use Rattle.checker_rules.specs.declared.course.Course.{Course}
-use Rattle.checker_rules.specs.Counts.{totals_behind}
+use Rattle.checker_rules.specs.Counts.{totals_after}
 use Rattle.checker_rules.specs.Scopes.{named}
-use Rattle.checker_rules.specs.Courses.{place_behind, GoesOn, IsCourse}
+use Rattle.checker_rules.specs.Courses.{place_next, GoesOn, IsCourse}
 
 -- a block that is in the table has a number there
 pub begins : (names : Names) (name : List ℕ) (number : Option ℕ) → is_some (block_named names name) ≡ true → number ≡ position (bytes_eq name) (keys_of names.blocks) →
@@ -27,9 +27,9 @@ begins names name (Some n) stands e at = at
 -- one statement more
 
 inside_more : (now : Option (List ℕ)) (before : List Numbered) (s : Numbered) →
-    inside_from now (before ++ s ∷ []) ≡ inside_behind (inside_from now before) s.statement.body
+    inside_from now (before ++ s ∷ []) ≡ inside_next (inside_from now before) s.statement.body
 inside_more now [] s = refl
-inside_more now (r ∷ before) s = inside_more (inside_behind now r.statement.body) before s
+inside_more now (r ∷ before) s = inside_more (inside_next now r.statement.body) before s
 
 any_more : (test : BodyTree → Bool) (before : List Numbered) (s : Numbered) → any_body test (before ++ s ∷ []) ≡ (any_body test before || test s.statement.body)
 any_more test before s =
@@ -45,7 +45,7 @@ sum_more count before s =
     one = sum_by-cons (λ (r : Numbered). count r.statement.body) s []
 
 place_more : (names : Names) (before : List Numbered) (s : Numbered) →
-    place_behind names (inside_behind (inside_after before) s.statement.body) (place_after names before) s.statement.body ≡ place_after names (before ++ s ∷ [])
+    place_next names (inside_next (inside_after before) s.statement.body) (place_after names before) s.statement.body ≡ place_after names (before ++ s ∷ [])
 place_more names before s = λ j. record {
   in_procedure = is_some (sym (inside_more None before s) j) && not (in_data_block names (sym (inside_more None before s) j));
   in_data = in_data_block names (sym (inside_more None before s) j);
@@ -54,7 +54,7 @@ place_more names before s = λ j. record {
   after_crc = sym (any_more is_crc before s) j;
 }
 
-totals_more : (before : List Numbered) (s : Numbered) → totals_behind (rules.totals_of before) s.statement.body ≡ rules.totals_of (before ++ s ∷ [])
+totals_more : (before : List Numbered) (s : Numbered) → totals_after (rules.totals_of before) s.statement.body ≡ rules.totals_of (before ++ s ∷ [])
 totals_more before s = λ j. record {
   booleans = sym (sum_more boolean_elements before s) j;
   integers = sym (sum_more integer_elements before s) j;
@@ -68,10 +68,10 @@ course_more names before n s old new is goes =
     let d = goes.booleans in
     let e = goes.integers in
     record {
-      inside = goes.inside ∙ ap (λ (z : Option (List ℕ)). inside_behind z s.statement.body) is.inside ∙ sym (inside_more None before s);
+      inside = goes.inside ∙ ap (λ (z : Option (List ℕ)). inside_next z s.statement.body) is.inside ∙ sym (inside_more None before s);
       within = goes.within;
-      place = goes.place ∙ (λ j. place_behind names (inside_behind (is.inside j) s.statement.body) (is.place j) s.statement.body) ∙ place_more names before s;
-      totals = goes.totals ∙ ap (λ (t : rules.Totals). totals_behind t s.statement.body) is.totals ∙ totals_more before s;
+      place = goes.place ∙ (λ j. place_next names (inside_next (is.inside j) s.statement.body) (is.place j) s.statement.body) ∙ place_more names before s;
+      totals = goes.totals ∙ ap (λ (t : rules.Totals). totals_after t s.statement.body) is.totals ∙ totals_more before s;
       booleans = omega (arith, b, d);
       integers = omega (arith, c, e);
     }

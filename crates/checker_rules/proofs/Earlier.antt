@@ -8,9 +8,9 @@ use Rattle.std.proofs.lemmas.Bool.{lt-ltb, le-ltb}
 use Rattle.stapl_syntax.specs.declared.names.Declaration.{Declaration}
 use Rattle.stapl_syntax.specs.declared.names.Key.{Key}
 use Rattle.stapl_syntax.specs.Trees.{BodyTree, procedure, data_block, action, StmtTree}
-use Rattle.stapl_syntax.specs.Names.{Numbered, numbered_from, numbered, inside_behind, declaration, block_of, block_of_body, action_of, action_of_body, variable_of, variable_in, label_of, label_in, declared_from, declared, firsts, key_eq, names_of}
+use Rattle.stapl_syntax.specs.Names.{Numbered, numbered_from, numbered, inside_next, declaration, block_of, block_of_body, action_of, action_of_body, variable_of, variable_in, label_of, label_in, declared_from, declared, firsts, key_eq, names_of}
 use Rattle.stapl_syntax.specs.Rules.{declared_in}
-use Rattle.stapl_names.proofs.Keys.{name_same, key_same, found_behind}
+use Rattle.stapl_names.proofs.Keys.{name_same, key_same, found_after}
 use Rattle.checker_rules.specs.Earlier.{stands_below, piece_of_block, piece_of_variable, own_number, declared_below}
 
 module _ {K V : Type 0} where
@@ -24,17 +24,17 @@ module _ {K V : Type 0} where
         stands_below number m (lookup test (declared_from declares now (numbered_from n read))) ≡ false
     none_below [] now n m le = refl
     none_below (None ∷ read) now n m le = none_below read now (n + 1) m (omega (arith, le))
-    none_below (Some st ∷ read) now n m le = by (none_below read (inside_behind now st.body) (n + 1) m (omega (arith, le))) (declares now n st) refl
+    none_below (Some st ∷ read) now n m le = by (none_below read (inside_next now st.body) (n + 1) m (omega (arith, le))) (declares now n st) refl
       where
-        hit : stands_below number m (lookup test (declared_from declares (inside_behind now st.body) (numbered_from (n + 1) read))) ≡ false →
+        hit : stands_below number m (lookup test (declared_from declares (inside_next now st.body) (numbered_from (n + 1) read))) ≡ false →
             (e : K × V) → declares now n st ≡ Some e → (b : Bool) →
-            stands_below number m (cond b (Some e.1) (lookup test (declared_from declares (inside_behind now st.body) (numbered_from (n + 1) read)))) ≡ false
+            stands_below number m (cond b (Some e.1) (lookup test (declared_from declares (inside_next now st.body) (numbered_from (n + 1) read)))) ≡ false
         hit given e is true = ap (λ k. nat_lt k m) (numbers now n st e is) ∙ le-ltb n m le
         hit given e is false = given
 
-        by : stands_below number m (lookup test (declared_from declares (inside_behind now st.body) (numbered_from (n + 1) read))) ≡ false →
+        by : stands_below number m (lookup test (declared_from declares (inside_next now st.body) (numbered_from (n + 1) read))) ≡ false →
             (o : Option (K × V)) → declares now n st ≡ o →
-            stands_below number m (lookup test (cons_option o (declared_from declares (inside_behind now st.body) (numbered_from (n + 1) read)))) ≡ false
+            stands_below number m (lookup test (cons_option o (declared_from declares (inside_next now st.body) (numbered_from (n + 1) read)))) ≡ false
         by given None e = given
         by given (Some x) e = hit given x e (test x.0)
 
@@ -47,32 +47,32 @@ module _ {K V : Type 0} where
     stands_earlier (None ∷ read) (suc i) now n =
         let e : n + suc i ≡ n + 1 + i = omega arith in
         ap (λ m. stands_below number m (lookup test (declared_from declares now (numbered_from (n + 1) read)))) e ∙ stands_earlier read i now (n + 1)
-    stands_earlier (Some st ∷ read) (suc i) now n = by (stands_earlier read i (inside_behind now st.body) (n + 1)) (declares now n st) refl
+    stands_earlier (Some st ∷ read) (suc i) now n = by (stands_earlier read i (inside_next now st.body) (n + 1)) (declares now n st) refl
       where
         All : List (K × V)
-        All = declared_from declares (inside_behind now st.body) (numbered_from (n + 1) read)
+        All = declared_from declares (inside_next now st.body) (numbered_from (n + 1) read)
 
-        rest : stands_below number (n + 1 + i) (lookup test (declared_from declares (inside_behind now st.body) (numbered_from (n + 1) read)))
-            ≡ is_some (lookup test (declared_from declares (inside_behind now st.body) (numbered_from (n + 1) (take i read)))) →
-            stands_below number (n + suc i) (lookup test (declared_from declares (inside_behind now st.body) (numbered_from (n + 1) read)))
-            ≡ is_some (lookup test (declared_from declares (inside_behind now st.body) (numbered_from (n + 1) (take i read))))
+        rest : stands_below number (n + 1 + i) (lookup test (declared_from declares (inside_next now st.body) (numbered_from (n + 1) read)))
+            ≡ is_some (lookup test (declared_from declares (inside_next now st.body) (numbered_from (n + 1) (take i read)))) →
+            stands_below number (n + suc i) (lookup test (declared_from declares (inside_next now st.body) (numbered_from (n + 1) read)))
+            ≡ is_some (lookup test (declared_from declares (inside_next now st.body) (numbered_from (n + 1) (take i read))))
         rest given =
             let e : n + suc i ≡ n + 1 + i = omega arith in
-            ap (λ m. stands_below number m (lookup test (declared_from declares (inside_behind now st.body) (numbered_from (n + 1) read)))) e ∙ given
+            ap (λ m. stands_below number m (lookup test (declared_from declares (inside_next now st.body) (numbered_from (n + 1) read)))) e ∙ given
 
-        hit : stands_below number (n + 1 + i) (lookup test (declared_from declares (inside_behind now st.body) (numbered_from (n + 1) read)))
-            ≡ is_some (lookup test (declared_from declares (inside_behind now st.body) (numbered_from (n + 1) (take i read)))) →
+        hit : stands_below number (n + 1 + i) (lookup test (declared_from declares (inside_next now st.body) (numbered_from (n + 1) read)))
+            ≡ is_some (lookup test (declared_from declares (inside_next now st.body) (numbered_from (n + 1) (take i read)))) →
             (e : K × V) → declares now n st ≡ Some e → (b : Bool) →
-            stands_below number (n + suc i) (cond b (Some e.1) (lookup test (declared_from declares (inside_behind now st.body) (numbered_from (n + 1) read))))
-            ≡ is_some (cond b (Some e.1) (lookup test (declared_from declares (inside_behind now st.body) (numbered_from (n + 1) (take i read)))))
+            stands_below number (n + suc i) (cond b (Some e.1) (lookup test (declared_from declares (inside_next now st.body) (numbered_from (n + 1) read))))
+            ≡ is_some (cond b (Some e.1) (lookup test (declared_from declares (inside_next now st.body) (numbered_from (n + 1) (take i read)))))
         hit given e is true = ap (λ k. nat_lt k (n + suc i)) (numbers now n st e is) ∙ lt-ltb n (n + suc i) (omega arith)
         hit given e is false = rest given
 
-        by : stands_below number (n + 1 + i) (lookup test (declared_from declares (inside_behind now st.body) (numbered_from (n + 1) read)))
-            ≡ is_some (lookup test (declared_from declares (inside_behind now st.body) (numbered_from (n + 1) (take i read)))) →
+        by : stands_below number (n + 1 + i) (lookup test (declared_from declares (inside_next now st.body) (numbered_from (n + 1) read)))
+            ≡ is_some (lookup test (declared_from declares (inside_next now st.body) (numbered_from (n + 1) (take i read)))) →
             (o : Option (K × V)) → declares now n st ≡ o →
-            stands_below number (n + suc i) (lookup test (cons_option o (declared_from declares (inside_behind now st.body) (numbered_from (n + 1) read))))
-            ≡ is_some (lookup test (cons_option o (declared_from declares (inside_behind now st.body) (numbered_from (n + 1) (take i read)))))
+            stands_below number (n + suc i) (lookup test (cons_option o (declared_from declares (inside_next now st.body) (numbered_from (n + 1) read))))
+            ≡ is_some (lookup test (cons_option o (declared_from declares (inside_next now st.body) (numbered_from (n + 1) (take i read)))))
         by given None e = rest given
         by given (Some x) e = hit given x e (test x.0)
 
@@ -109,9 +109,9 @@ module _ {K V : Type 0} (eq : K → K → Bool) (same : (x y : K) → eq x y ≡
       stands_below number (1 + i) (lookup (eq k) (firsts eq (declared declares (numbered read))))
       ≡ is_some (lookup (eq k) (firsts eq (declared declares (numbered (take i read)))))
   earlier_by read i k =
-      ap (stands_below number (1 + i)) (found_behind eq same k (declared declares (numbered read)) [])
+      ap (stands_below number (1 + i)) (found_after eq same k (declared declares (numbered read)) [])
       ∙ stands_earlier declares number numbers (eq k) read i None 1
-      ∙ sym (ap is_some (found_behind eq same k (declared declares (numbered (take i read))) []))
+      ∙ sym (ap is_some (found_after eq same k (declared declares (numbered (take i read))) []))
 
 module _ (read : List (Option StmtTree)) (i : ℕ) where
   abbrev Same : {K V : Type 0} → (K → K → Bool) → (V → ℕ) → (Option (List ℕ) → ℕ → StmtTree → Option (K × V)) → K → Type 0

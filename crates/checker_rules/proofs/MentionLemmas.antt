@@ -53,19 +53,19 @@ nothing_joined a = refl
 abbrev parts_variables : List PrintPart → NameList
 parts_variables parts = flat_map part_variables (map part_tree parts)
 
-parts_behind : (known : Known) (before : NameFaults) (parts : List PrintPart) →
+parts_after : (known : Known) (before : NameFaults) (parts : List PrintPart) →
     fold (parts_joined known) before parts ≡ joined before (faults_in known (parts_variables parts))
-parts_behind known before [] = sym (ap (joined before) (faults_none known) ∙ joined_nothing before)
-parts_behind known before (p ∷ parts) =
+parts_after known before [] = sym (ap (joined before) (faults_none known) ∙ joined_nothing before)
+parts_after known before (p ∷ parts) =
     let first = faults_in known (part_variables (part_tree p)) in
     let rest = parts_variables parts in
-    parts_behind known (joined before first) parts ∙ joined_assoc before first (faults_in known rest)
+    parts_after known (joined before first) parts ∙ joined_assoc before first (faults_in known rest)
     ∙ ap (joined before) (sym (faults_joined known (part_variables (part_tree p)) rest))
 
 pub faults_of_parts : (known : Known) (parts : List PrintPart) →
     fold (parts_joined known) no_faults parts ≡ faults_in known (parts_variables parts)
 faults_of_parts known parts =
-    parts_behind known no_faults parts
+    parts_after known no_faults parts
     ∙ nothing_joined (faults_in known (parts_variables parts))
 
 -- the names of a statement, part by part

@@ -9,8 +9,8 @@ abbrev pub totals_of : Totals → rules.Totals
 totals_of t = record { booleans = t.booleans; integers = t.integers }
 
 -- the totals after one more statement
-abbrev pub totals_behind : rules.Totals → BodyTree → rules.Totals
-totals_behind before body = record {
+abbrev pub totals_after : rules.Totals → BodyTree → rules.Totals
+totals_after before body = record {
   booleans = before.booleans + boolean_elements body;
   integers = before.integers + integer_elements body;
 }

@@ -1,11 +1,11 @@
 -- What the checker keeps of the statements before a piece.
 use Rattle.std.specs.Prelude.{◌≡◌, ◌≤◌, ◌+◌, ◌*◌, ◌^◌, not, ◌&&◌, ◌||◌, ℕ, List, true, Option, is_some}
 use Rattle.stapl_syntax.specs.Trees.{BodyTree, procedure, data_block}
-use Rattle.stapl_syntax.specs.Names.{Names, Numbered, inside_behind, inside_after, block_named}
+use Rattle.stapl_syntax.specs.Names.{Names, Numbered, inside_next, inside_after, block_named}
 use Rattle.stapl_syntax.specs.Rules as rules
 use Rattle.stapl_syntax.specs.Rules.{is_action, is_block, is_crc, in_data_block, known_from, place_after, Facts}
 use Rattle.checker_rules.specs.declared.course.Course.{Course}
-use Rattle.checker_rules.specs.Counts.{totals_of, totals_behind}
+use Rattle.checker_rules.specs.Counts.{totals_of, totals_after}
 use Rattle.checker_rules.specs.Places.{place_of}
 use Rattle.checker_rules.specs.Scopes.{named, IsInside}
 use Rattle.checker_rules.specs.Earlier.{declared_below}
@@ -17,8 +17,8 @@ BeginsListed names (data_block name) = is_some (block_named names name) ≡ true
 BeginsListed names _ = Unit {0}
 
 -- the place after a statement after which this block is open
-abbrev pub place_behind : Names → Option (List ℕ) → rules.Place → BodyTree → rules.Place
-place_behind names inside before body = record {
+abbrev pub place_next : Names → Option (List ℕ) → rules.Place → BodyTree → rules.Place
+place_next names inside before body = record {
   in_procedure = is_some inside && not (in_data_block names inside);
   in_data = in_data_block names inside;
   after_action = before.after_action || is_action body;
@@ -28,10 +28,10 @@ place_behind names inside before body = record {
 
 -- what is kept after one more statement
 pub record GoesOn (names : Names) (body : BodyTree) (old new : Course) : Type 0 where
-  pub inside : named names new.inside ≡ inside_behind (named names old.inside) body
+  pub inside : named names new.inside ≡ inside_next (named names old.inside) body
   pub within : IsInside names new.inside
-  pub place : place_of new.place ≡ place_behind names (inside_behind (named names old.inside) body) (place_of old.place) body
-  pub totals : totals_of new.before ≡ totals_behind (totals_of old.before) body
+  pub place : place_of new.place ≡ place_next names (inside_next (named names old.inside) body) (place_of old.place) body
+  pub totals : totals_of new.before ≡ totals_after (totals_of old.before) body
   pub booleans : new.before.booleans ≤ old.before.booleans + 2 ^ 31
   pub integers : new.before.integers ≤ old.before.integers + 2 ^ 31
 

@@ -1,11 +1,11 @@
 //! What is kept of the statements before a piece.
 ghost use Rattle.std.specs.Prelude.{◌≡◌, ◌≤◌, ◌<◌, ◌+◌, ◌^◌, [], false, is_some};
 ghost use Rattle.stapl_syntax.specs.Trees.{body_tree};
-ghost use Rattle.stapl_syntax.specs.Names.{Names, inside_behind};
+ghost use Rattle.stapl_syntax.specs.Names.{Names, inside_next};
 ghost use Rattle.stapl_syntax.specs.Rules.{in_data_block, is_action, is_block, is_crc};
 ghost use Rattle.checker_rules.specs.Scopes.{named, IsInside};
 ghost use Rattle.checker_rules.specs.Places.{place_of};
-ghost use Rattle.checker_rules.specs.Courses.{BeginsListed, place_behind, GoesOn, IsCourse};
+ghost use Rattle.checker_rules.specs.Courses.{BeginsListed, place_next, GoesOn, IsCourse};
 
 use crate::order::Place;
 use crate::sizes::Totals;
@@ -56,7 +56,7 @@ fn in_data_block(names: &Names, inside: Option<u32>) -> bool
 fn inside_after(names: &Names, inside: Option<u32>, body: &Body) -> Option<u32>
     requires within { IsInside names.now inside }
     requires listed { BeginsListed names.now (body_tree body.now) }
-    ensures named { named names.now result ≡ inside_behind (named names.now inside) (body_tree body.now) }
+    ensures named { named names.now result ≡ inside_next (named names.now inside) (body_tree body.now) }
     ensures within { IsInside names.now result }
 {
     match body {
@@ -70,7 +70,7 @@ fn inside_after(names: &Names, inside: Option<u32>, body: &Body) -> Option<u32>
 // The place after a statement after which this block is open.
 fn place_after(names: &Names, inside: Option<u32>, before: Place, body: &Body) -> Place
     requires { IsInside names.now inside }
-    ensures { place_of result ≡ place_behind names.now (named names.now inside) (place_of before) (body_tree body.now) }
+    ensures { place_of result ≡ place_next names.now (named names.now inside) (place_of before) (body_tree body.now) }
 {
     let in_data = in_data_block(names, inside);
     Place {

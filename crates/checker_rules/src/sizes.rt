@@ -3,7 +3,7 @@
 ghost use Rattle.std.specs.Prelude.{◌≡◌, ◌+◌, ◌<◌, ◌≤◌, ◌^◌, nat_abs};
 ghost use Rattle.stapl_syntax.specs.Trees.{body_tree};
 ghost use Rattle.stapl_syntax.specs.Rules.{is_boolean, is_too_large, has_too_many_values, passes_a_limit};
-ghost use Rattle.checker_rules.specs.Counts.{totals_of, totals_behind};
+ghost use Rattle.checker_rules.specs.Counts.{totals_of, totals_after};
 
 use stapl_syntax::{Body, Declaration, VarKind};
 
@@ -89,7 +89,7 @@ impl Totals {
     pub(crate) fn after(self, body: &Body) -> Totals
         requires booleans { self.booleans + 2 ^ 31 < 2 ^ 64 }
         requires integers { self.integers + 2 ^ 31 < 2 ^ 64 }
-        ensures after { totals_of result ≡ totals_behind (totals_of self) (body_tree body.now) }
+        ensures after { totals_of result ≡ totals_after (totals_of self) (body_tree body.now) }
         ensures booleans { result.booleans ≤ self.booleans + 2 ^ 31 }
         ensures integers { result.integers ≤ self.integers + 2 ^ 31 }
     {

@@ -64,19 +64,19 @@ pub rest_is : {A : Type 0} (x y : A × List ℕ) → read_of x ≡ read_of y →
 rest_is {A} x y e = ap (λ (p : A × List ℕ). p.1) (whole_is x y e)
 
 spelled_as : (bytes part mid whole rest : List ℕ) → bytes ≡ part ++ mid → part ≡ whole → mid ≡ rest → bytes ≡ whole ++ rest
-spelled_as bytes part mid whole rest read is behind = cc
+spelled_as bytes part mid whole rest read is after = cc
 
 pub nothing_takes : {A : Type 0} (front : List ℕ) (x : A) (spell : A → List ℕ) (P : A → Type 0) → spell x ≡ front → P x → Takes front (nothing x) spell P
 nothing_takes front x spell P s h = record {
   takes = λ bytes y rest are e.
       let value : x ≡ y = value_is (x, bytes) (y, rest) e in
-      let behind : bytes ≡ rest = rest_is (x, bytes) (y, rest) e in
+      let after : bytes ≡ rest = rest_is (x, bytes) (y, rest) e in
       record { spelled = cc; has = subst P value h };
 }
 
 spelled_on : (front bytes part mid whole rest : List ℕ) → bytes ≡ part ++ mid → whole ≡ front ++ part → mid ≡ rest → front ++ bytes ≡ whole ++ rest
-spelled_on front bytes part mid whole rest read is behind =
-    ap (λ (z : List ℕ). front ++ z) read ∙ sym (append_assoc front part mid) ∙ ap (λ (z : List ℕ). z ++ mid) (sym is) ∙ ap (λ (z : List ℕ). whole ++ z) behind
+spelled_on front bytes part mid whole rest read is after =
+    ap (λ (z : List ℕ). front ++ z) read ∙ sym (append_assoc front part mid) ∙ ap (λ (z : List ℕ). z ++ mid) (sym is) ∙ ap (λ (z : List ℕ). whole ++ z) after
 
 -- what is made of a value that was read, where its spelling follows from what is known of the value
 pub made_takes_if : {A B : Type 0} (front : List ℕ) (made : A → B) (reads : Reads A) (spell_a : A → List ℕ) (Q : A → Type 0) (spell : B → List ℕ) (P : B → Type 0)
@@ -86,9 +86,9 @@ made_takes_if {A} {B} front made reads spell_a Q spell P t is has = record {
       let b : Bound (reads bytes) (λ (x : A × List ℕ). Ok (made x.0, x.1)) (y, rest) = bound (reads bytes) (λ (x : A × List ℕ). Ok (made x.0, x.1)) (y, rest) e in
       let r : IsRead spell_a Q bytes b.first.0 b.first.1 = t.takes bytes b.first.0 b.first.1 are b.read in
       let value : made b.first.0 ≡ y = value_is (made b.first.0, b.first.1) (y, rest) b.next in
-      let behind : b.first.1 ≡ rest = rest_is (made b.first.0, b.first.1) (y, rest) b.next in
+      let after : b.first.1 ≡ rest = rest_is (made b.first.0, b.first.1) (y, rest) b.next in
       record {
-        spelled = spelled_on front bytes (spell_a b.first.0) b.first.1 (spell y) rest r.spelled (ap spell (sym value) ∙ is b.first.0 r.has) behind;
+        spelled = spelled_on front bytes (spell_a b.first.0) b.first.1 (spell y) rest r.spelled (ap spell (sym value) ∙ is b.first.0 r.has) after;
         has = subst P value (has b.first.0 r.has);
       };
 }
@@ -141,10 +141,10 @@ field_takes size test = record {
       past_cut (ltb (length bytes) size) _ _ (y, rest) e in
       let inside : (test (take size bytes) ≡ true) × ((take size bytes, drop size bytes) ≡ (y, rest)) = past_range (test (take size bytes)) _ _ (y, rest) whole.1 in
       let front : take size bytes ≡ y = ap (λ (p : List ℕ × List ℕ). p.0) inside.1 in
-      let behind : drop size bytes ≡ rest = ap (λ (p : List ℕ × List ℕ). p.1) inside.1 in
+      let after : drop size bytes ≡ rest = ap (λ (p : List ℕ × List ℕ). p.1) inside.1 in
       let long : size ≤ length bytes = ltb-false (length bytes) size whole.0 in
       record {
-        spelled = sym (take-append-drop size bytes) ∙ ap (λ (z : List ℕ). z ++ drop size bytes) front ∙ ap (λ (z : List ℕ). y ++ z) behind;
+        spelled = sym (take-append-drop size bytes) ∙ ap (λ (z : List ℕ). z ++ drop size bytes) front ∙ ap (λ (z : List ℕ). y ++ z) after;
         has = (
           ap length (sym front) ∙ length-take-le size bytes long,
           ap test (sym front) ∙ inside.0,
@@ -176,10 +176,10 @@ byte_takes low end = record {
       bound (field 1 test bytes) (λ (f : List ℕ × List ℕ). Ok (slice_index_or f.0 0 0, f.1)) (y, rest) e in
       let r : IsRead (λ x. x) (IsField 1 test) bytes b.first.0 b.first.1 = (field_takes 1 test).takes bytes b.first.0 b.first.1 are b.read in
       let value : slice_index_or b.first.0 0 0 ≡ y = value_is (slice_index_or b.first.0 0 0, b.first.1) (y, rest) b.next in
-      let behind : b.first.1 ≡ rest = rest_is (slice_index_or b.first.0 0 0, b.first.1) (y, rest) b.next in
+      let after : b.first.1 ≡ rest = rest_is (slice_index_or b.first.0 0 0, b.first.1) (y, rest) b.next in
       let spelled : b.first.0 ≡ y ∷ [] = one_byte b.first.0 r.has.0 ∙ ap one value in
       record {
-        spelled = r.spelled ∙ ap (λ (z : List ℕ). z ++ b.first.1) spelled ∙ ap (λ (z : List ℕ). y ∷ z) behind;
+        spelled = r.spelled ∙ ap (λ (z : List ℕ). z ++ b.first.1) spelled ∙ ap (λ (z : List ℕ). y ∷ z) after;
         has = from_is low end y (ap (is_from low end) (sym value) ∙ r.has.1);
       };
 }
@@ -193,11 +193,11 @@ number_takes low end = record {
       bound (field 4 test bytes) (λ (f : List ℕ × List ℕ). Ok (from_be_bytes w32 f.0, f.1)) (y, rest) e in
       let r : IsRead (λ x. x) (IsField 4 test) bytes b.first.0 b.first.1 = (field_takes 4 test).takes bytes b.first.0 b.first.1 are b.read in
       let value : from_be_bytes w32 b.first.0 ≡ y = value_is (from_be_bytes w32 b.first.0, b.first.1) (y, rest) b.next in
-      let behind : b.first.1 ≡ rest = rest_is (from_be_bytes w32 b.first.0, b.first.1) (y, rest) b.next in
+      let after : b.first.1 ≡ rest = rest_is (from_be_bytes w32 b.first.0, b.first.1) (y, rest) b.next in
       let bytes_are : AreBytes b.first.0 = front_bytes b.first.0 b.first.1 (subst AreBytes r.spelled are) in
       let spelled : b.first.0 ≡ number y = sym (be_bytes_4 b.first.0 y r.has.0 (λ i. at_each b.first.0 i bytes_are) (sym value)) in
       record {
-        spelled = spelled_as bytes b.first.0 b.first.1 (number y) rest r.spelled spelled behind;
+        spelled = spelled_as bytes b.first.0 b.first.1 (number y) rest r.spelled spelled after;
         has = from_is low end y (ap (is_from low end) (sym value) ∙ r.has.1);
       };
 }

@@ -43,15 +43,15 @@ ends_wide earlier (suc (suc zero)) = omega arith
 ends_wide earlier (suc (suc (suc k))) = omega arith
 
 -- what a variable takes of the limits
-fits_behind : (earlier : List VarDef) (kind size : ℕ) → IsVariable (record { kind = kind; size = size })
+fits_after : (earlier : List VarDef) (kind size : ℕ) → IsVariable (record { kind = kind; size = size })
     → sum_by (elements_of 0 2) earlier + elements_of 0 2 (record { kind = kind; size = size }) ≤ 1048576
     → sum_by (elements_of 1 3) earlier + elements_of 1 3 (record { kind = kind; size = size }) ≤ 16777216
     → FitsBehind earlier (record { kind = kind; size = size })
-fits_behind earlier zero size is ints bits = let one = is.scalar (omega arith) in (omega arith, is.some, omega arith)
-fits_behind earlier (suc zero) size is ints bits = let one = is.scalar (omega arith) in (omega arith, is.some, omega arith)
-fits_behind earlier (suc (suc zero)) size is ints bits = (omega arith, is.some, omega arith)
-fits_behind earlier (suc (suc (suc zero))) size is ints bits = let most = is.boolean_array refl in (omega arith, is.some, omega arith)
-fits_behind earlier (suc (suc (suc (suc k)))) size is ints bits = absurd (omega (arith, is.kind))
+fits_after earlier zero size is ints bits = let one = is.scalar (omega arith) in (omega arith, is.some, omega arith)
+fits_after earlier (suc zero) size is ints bits = let one = is.scalar (omega arith) in (omega arith, is.some, omega arith)
+fits_after earlier (suc (suc zero)) size is ints bits = (omega arith, is.some, omega arith)
+fits_after earlier (suc (suc (suc zero))) size is ints bits = let most = is.boolean_array refl in (omega arith, is.some, omega arith)
+fits_after earlier (suc (suc (suc (suc k)))) size is ints bits = absurd (omega (arith, is.kind))
 
 taken_of : (scalar array : ℕ) (earlier : List VarDef) (v : VarDef) (xs : List VarDef)
     → sum_by (elements_of scalar array) (earlier ++ v ∷ xs) ≡ sum_by (elements_of scalar array) earlier + (elements_of scalar array v + sum_by (elements_of scalar array) xs)
@@ -63,7 +63,7 @@ pub variables_after : (earlier xs : List VarDef) → AllByRecursion IsVariable x
     → sum_by (elements_of 1 3) (earlier ++ xs) ≤ 16777216 → AllAfter FitsBehind earlier xs
 variables_after earlier [] each ints bits = tt
 variables_after earlier (v ∷ xs) each ints bits = (
-  fits_behind earlier v.kind v.size each.0 (omega (arith, ints, taken_of 0 2 earlier v xs)) (omega (arith, bits, taken_of 1 3 earlier v xs)),
+  fits_after earlier v.kind v.size each.0 (omega (arith, ints, taken_of 0 2 earlier v xs)) (omega (arith, bits, taken_of 1 3 earlier v xs)),
   variables_after (earlier ++ v ∷ []) xs each.1
       (subst (λ (ys : List VarDef). sum_by (elements_of 0 2) ys ≤ 1048576) (sym (append_assoc earlier (v ∷ []) xs)) ints)
       (subst (λ (ys : List VarDef). sum_by (elements_of 1 3) ys ≤ 16777216) (sym (append_assoc earlier (v ∷ []) xs)) bits),

@@ -23,9 +23,9 @@ next_byte (suc i) n =
     let power : 256 * 256 ^ suc i ≡ 256 ^ suc (suc i) = omega (arith, pow-suc 256 (suc i)) in
     sym (ap (λ m. m % 256) (div-div-eq-div-mul n 256 (256 ^ suc i) ∙ ap (λ p. n / p) power))
 
-bytes_behind : (i m n : ℕ) → bytes_low_first (suc i) m n ≡ bytes_low_first i m (n / 256)
-bytes_behind i zero n = refl
-bytes_behind i (suc m) n = ap₂ (λ b bs. b ∷ bs) (next_byte i n) (bytes_behind (suc i) m n)
+bytes_after : (i m n : ℕ) → bytes_low_first (suc i) m n ≡ bytes_low_first i m (n / 256)
+bytes_after i zero n = refl
+bytes_after i (suc m) n = ap₂ (λ b bs. b ∷ bs) (next_byte i n) (bytes_after (suc i) m n)
 
 take_bytes : (i m k n : ℕ) → m ≤ k → take m (bytes_low_first i k n) ≡ bytes_low_first i m n
 take_bytes i zero k n few = refl
@@ -37,7 +37,7 @@ pub bits_of_bytes : (m n : ℕ) → flat_map (low_bits 8) (bytes_low_first 0 m n
 bits_of_bytes zero n = refl
 bits_of_bytes (suc m) n =
     let more : 8 + 8 * m ≡ 8 * suc m = omega arith in
-    ap₂ (λ x bs. x ++ flat_map (low_bits 8) bs) (low_bits_mod 8 n) (bytes_behind 0 m n)
+    ap₂ (λ x bs. x ++ flat_map (low_bits 8) bs) (low_bits_mod 8 n) (bytes_after 0 m n)
     ∙ ap (λ x. low_bits 8 n ++ x) (bits_of_bytes m (n / 256))
     ∙ sym (low_bits_cut 8 (8 * m) n) ∙ ap (λ k. low_bits k n) more
 
@@ -70,7 +70,7 @@ bytes_of_number (suc m) j bits room =
     let whole : 8 + (j - 8) ≡ j = omega arith in
     let cut : drop 8 (take j bits) ≡ take (j - 8) (drop 8 bits) = ap (λ k. drop 8 (take k bits)) (sym whole) ∙ drop-take 8 (j - 8) bits in
     let rest : n / 256 ≡ number_of (take (j - 8) (drop 8 bits)) = omega arith ∙ ap number_of cut in
-    ap₂ (λ b bs. b ∷ bs) byte (bytes_behind 0 m n ∙ ap (bytes_low_first 0 m) rest ∙ bytes_of_number m (j - 8) (drop 8 bits) (omega arith))
+    ap₂ (λ b bs. b ∷ bs) byte (bytes_after 0 m n ∙ ap (bytes_low_first 0 m) rest ∙ bytes_of_number m (j - 8) (drop 8 bits) (omega arith))
 
 -- the first bytes of a word
 pub word_bytes : (m n word : ℕ) (bits : List Bool) → m ≤ 8 → n ≡ min 64 (length bits) → word ≡ number_of (take n bits)
@@ -111,7 +111,7 @@ word_put out new total bits k made so_far =
     let part : List ℕ = bytes_of_bits (min 8 count) (drop (64 * k) bits) in
     let next : 64 * k + 64 ≡ 64 * (k + 1) = omega arith in
     let left : bytes_for (length bits - 64 * (k + 1)) ≡ count - 8 = omega arith in
-    let behind : drop (64 * (k + 1)) bits ≡ drop 64 (drop (64 * k) bits) = sym (drop-drop 64 (64 * k) bits ∙ ap (λ j. drop j bits) next) in
-    ap₂ (λ x y. x ++ y) made (ap₂ bytes_of_bits left behind)
+    let after : drop (64 * (k + 1)) bits ≡ drop 64 (drop (64 * k) bits) = sym (drop-drop 64 (64 * k) bits ∙ ap (λ j. drop j bits) next) in
+    ap₂ (λ x y. x ++ y) made (ap₂ bytes_of_bits left after)
     ∙ append_assoc out part (bytes_of_bits (count - 8) (drop 64 (drop (64 * k) bits)))
     ∙ ap (λ x. out ++ x) (sym (bytes_cut 8 count (drop (64 * k) bits))) ∙ so_far

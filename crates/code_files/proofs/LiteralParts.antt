@@ -142,19 +142,19 @@ zero_from byte used small few =
     ∙ low_zero (8 - used) (byte / 2 ^ used) (part_below byte used small few)
 
 -- the bits after those of a literal are in its last byte
-behind_last : (packed : List ℕ) (bits : ℕ) → 1 ≤ length packed → 8 * (length packed - 1) ≤ bits
+after_last : (packed : List ℕ) (bits : ℕ) → 1 ≤ length packed → 8 * (length packed - 1) ≤ bits
     → drop bits (flat_map (low_bits 8) packed) ≡ drop (bits - 8 * (length packed - 1)) (low_bits 8 (get_or packed (length packed - 1) 0))
-behind_last [] bits some least = absurd (omega arith)
-behind_last (b ∷ []) bits some least =
+after_last [] bits some least = absurd (omega arith)
+after_last (b ∷ []) bits some least =
     let all : bits - 0 ≡ bits = omega arith in
     ap (drop bits) (append-nil (low_bits 8 b)) ∙ ap (λ (n : ℕ). drop n (low_bits 8 b)) (sym all)
-behind_last (b ∷ (d ∷ packed)) bits some least =
+after_last (b ∷ (d ∷ packed)) bits some least =
     let eight : bits - length (low_bits 8 b) ≡ bits - 8 = omega (arith, length-low_bits 8 b) in
     let index : suc (suc (length packed)) - 1 ≡ suc (suc (length packed) - 1) = omega arith in
     let left : bits - 8 - 8 * (suc (length packed) - 1) ≡ bits - 8 * (suc (suc (length packed)) - 1) = omega arith in
     drop_front bits (low_bits 8 b) (flat_map (low_bits 8) (d ∷ packed)) (omega (arith, length-low_bits 8 b))
     ∙ ap (λ (n : ℕ). drop n (flat_map (low_bits 8) (d ∷ packed))) eight
-    ∙ behind_last (d ∷ packed) (bits - 8) (omega arith) (omega arith)
+    ∙ after_last (d ∷ packed) (bits - 8) (omega arith) (omega arith)
     ∙ ap (λ (n : ℕ). drop n (low_bits 8 (get_or (d ∷ packed) (suc (length packed) - 1) 0))) left
     ∙ ap (λ (k : ℕ). drop (bits - 8 * (suc (suc (length packed)) - 1)) (low_bits 8 (get_or (b ∷ (d ∷ packed)) k 0))) (sym index)
 
@@ -167,4 +167,4 @@ pub padded_last : (packed : List ℕ) (bits : ℕ) → length packed ≡ bytes_f
     → is_padded bits packed ≡ list_all not (drop (bits % 8) (low_bits 8 (get_or packed (length packed - 1) 0)))
 padded_last packed bits size some =
     let used : bits - 8 * (length packed - 1) ≡ bits % 8 = omega arith in
-    ap (list_all not) (behind_last packed bits (omega arith) (omega arith) ∙ ap (λ (n : ℕ). drop n (low_bits 8 (get_or packed (length packed - 1) 0))) used)
+    ap (list_all not) (after_last packed bits (omega arith) (omega arith) ∙ ap (λ (n : ℕ). drop n (low_bits 8 (get_or packed (length packed - 1) 0))) used)

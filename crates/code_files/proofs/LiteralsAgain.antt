@@ -66,11 +66,11 @@ unpacked (suc n) bits few =
     let b = drop 8 bits in
     let short : length a ≤ 8 = omega (arith, length-take 8 bits) in
     let front : low_bits 8 (number_of a) ≡ a ++ replicate (8 - length a) false = low_bits_padded 8 a short in
-    let behind : flat_map (low_bits 8) (bytes_of_bits n b) ≡ b ++ replicate (8 * n - length b) false = unpacked n b (omega (arith, length-drop 8 bits)) in
+    let after : flat_map (low_bits 8) (bytes_of_bits n b) ≡ b ++ replicate (8 * n - length b) false = unpacked n b (omega (arith, length-drop 8 bits)) in
     let whole : a ++ b ≡ bits = take-append-drop 8 bits in
     let last : length a < 8 → b ≡ [] = λ less. none_left b (omega (arith, length-take 8 bits, length-drop 8 bits)) in
     ap (λ (z : List Bool). z ++ flat_map (low_bits 8) (bytes_of_bits n b)) front
-    ∙ ap (λ (z : List Bool). (a ++ replicate (8 - length a) false) ++ z) behind
+    ∙ ap (λ (z : List Bool). (a ++ replicate (8 - length a) false) ++ z) after
     ∙ joined a b n short last (omega (arith, length-drop 8 bits))
     ∙ ap (λ (z : List Bool). z ++ replicate (8 * suc n - length z) false) whole
 

@@ -15,19 +15,19 @@ module _ (names : List (List ℕ)) where
   abbrev is_new : List ℕ → Bool
   is_new bytes = is_spelled bytes && not (list_any (bytes_eq bytes) names)
 
-  behind_length : (bytes : List ℕ) (len : ℕ) (rest : List ℕ) → byte_in 1 33 bytes ≡ Ok (len, rest) → name_at names bytes ≡ field len is_new rest
-  behind_length bytes len rest read = rw read refl
+  after_length : (bytes : List ℕ) (len : ℕ) (rest : List ℕ) → byte_in 1 33 bytes ≡ Ok (len, rest) → name_at names bytes ≡ field len is_new rest
+  after_length bytes len rest read = rw read refl
 
   -- a name is given
-  pub name_given : (bytes : List ℕ) (len : ℕ) (rest front behind word : List ℕ) → byte_in 1 33 bytes ≡ Ok (len, rest) → len ≤ length rest → front ≡ take len rest
-      → behind ≡ drop len rest → word ≡ front → is_spelled front ≡ true → false ≡ list_any (bytes_eq word) names
-      → name_at names bytes ≡ Ok (word, behind)
-  name_given bytes len rest front behind word read long front_is behind_is word_is spelled new =
+  pub name_given : (bytes : List ℕ) (len : ℕ) (rest front after word : List ℕ) → byte_in 1 33 bytes ≡ Ok (len, rest) → len ≤ length rest → front ≡ take len rest
+      → after ≡ drop len rest → word ≡ front → is_spelled front ≡ true → false ≡ list_any (bytes_eq word) names
+      → name_at names bytes ≡ Ok (word, after)
+  name_given bytes len rest front after word read long front_is after_is word_is spelled new =
       let enough : ltb (length rest) len ≡ false = le-ltb _ _ long in
       let whole : word ≡ take len rest = word_is ∙ front_is in
       let named : is_spelled (take len rest) ≡ true = rw (← front_is) spelled in
       let fresh : list_any (bytes_eq (take len rest)) names ≡ false = rw (← whole) (sym new) in
-      rw (whole, behind_is) (behind_length bytes len rest read ∙ rw (enough, named, fresh) refl)
+      rw (whole, after_is) (after_length bytes len rest read ∙ rw (enough, named, fresh) refl)
 
   -- it is one of the names
   pub name_taken : (bytes : List ℕ) (len : ℕ) (rest front word : List ℕ) → byte_in 1 33 bytes ≡ Ok (len, rest) → len ≤ length rest → front ≡ take len rest
@@ -38,7 +38,7 @@ module _ (names : List (List ℕ)) where
       let whole : word ≡ take len rest = word_is ∙ front_is in
       let named : is_spelled (take len rest) ≡ true = rw (← front_is) spelled in
       let taken : list_any (bytes_eq (take len rest)) names ≡ true = rw (← whole) (sym new) in
-      behind_length bytes len rest read ∙ rw (enough, named, taken) refl
+      after_length bytes len rest read ∙ rw (enough, named, taken) refl
 
 -- a new name goes last
 pub names_next : {A : Type 0} (name_of : A → List ℕ) (names new : List (List ℕ)) (items : List A) (x : A) → names ≡ map name_of items
@@ -48,12 +48,12 @@ names_next name_of names new items x is none put =
     last ∙ ap (λ (ns : List (List ℕ)). ns ++ name_of x ∷ []) is ∙ sym (map-append name_of items (x ∷ []))
 
 -- procedures and actions are read by the names and the entries of those before them
-pub procedure_behind : (earlier : List ProcDef) (names : List (List ℕ)) (least : ℕ) (bytes : List ℕ) → names ≡ map (λ (p : ProcDef). p.name) earlier
+pub procedure_after : (earlier : List ProcDef) (names : List (List ℕ)) (least : ℕ) (bytes : List ℕ) → names ≡ map (λ (p : ProcDef). p.name) earlier
     → least ≡ least_entry earlier → procedure_among names least bytes ≡ procedure_at earlier bytes
-procedure_behind earlier names least bytes is least_is =
+procedure_after earlier names least bytes is least_is =
     ap (λ (ns : List (List ℕ)). procedure_among ns least bytes) is
     ∙ ap (λ (n : ℕ). procedure_among (map (λ (p : ProcDef). p.name) earlier) n bytes) least_is
 
-pub action_behind : (procedures : ℕ) (earlier : List ActionDef) (names : List (List ℕ)) (bytes : List ℕ) → names ≡ map (λ (a : ActionDef). a.name) earlier
+pub action_after : (procedures : ℕ) (earlier : List ActionDef) (names : List (List ℕ)) (bytes : List ℕ) → names ≡ map (λ (a : ActionDef). a.name) earlier
     → action_among procedures names bytes ≡ action_at procedures earlier bytes
-action_behind procedures earlier names bytes is = ap (λ (ns : List (List ℕ)). action_among procedures ns bytes) is
+action_after procedures earlier names bytes is = ap (λ (ns : List (List ℕ)). action_among procedures ns bytes) is

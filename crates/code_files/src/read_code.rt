@@ -18,7 +18,7 @@ use stapl_meaning::Text;
 use std::alloc::Global;
 
 // The instructions of a code with these lists.
-fn instrs_behind<'a>(
+fn instrs_after<'a>(
     alloc: Global,
     variables: &ItemList<VarDef>,
     literals: &ItemList<Bits>,
@@ -48,7 +48,7 @@ pub(crate) fn code_of(alloc: Global, bytes: &[u8]) -> Result<(CodeLists, &[u8]),
     let (texts, rest) = texts_of(alloc, rest)?;
     let (procedures, rest) = procedures_of(alloc, rest)?;
     let (actions, rest) = actions_of(alloc, procedures.len(), rest)?;
-    let (instrs, rest) = instrs_behind(alloc, &variables, &literals, &texts, &procedures, rest)?;
+    let (instrs, rest) = instrs_after(alloc, &variables, &literals, &texts, &procedures, rest)?;
     Ok((
         CodeLists {
             profile,

@@ -85,9 +85,9 @@ fn literal_of(alloc: Global, bytes: &[u8]) -> Result<(Bits, &[u8]), Stop>
     ensures { Gives (λ x. (x.0, x.1.now)) result (literal_at bytes.now) }
 {
     let (len, rest) = number_in(1, 16_777_217, bytes)?;
-    let (packed, behind) = packed_of(len, rest)?;
+    let (packed, after) = packed_of(len, rest)?;
     let bits = bits_of(alloc, len, packed)?;
-    Ok((bits, behind))
+    Ok((bits, after))
 }
 
 fn literals_at(alloc: Global, count: u32, bytes: &[u8]) -> Result<(Vec<Bits>, &[u8]), Stop>

@@ -41,14 +41,14 @@ fn name_of<'a>(names: &IndexSet<Name>, bytes: &'a [u8]) -> Result<(Name, &'a [u8
     if rest.len() < len as usize {
         return Err(cut());
     }
-    let (front, behind) = rest.split_at(len as usize);
+    let (front, after) = rest.split_at(len as usize);
     match spelled_name(front) {
         None => Err(wrong(rest)),
         Some(name) => {
             if names.contains(&name) {
                 Err(wrong(rest))
             } else {
-                Ok((name, behind))
+                Ok((name, after))
             }
         }
     }

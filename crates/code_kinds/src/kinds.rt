@@ -2,7 +2,7 @@
 ghost use Rattle.std.specs.Prelude.{◌≡◌, ◌∷◌, List, replicate, Some, None, IfOk, if◌then◌else◌, slice_get};
 ghost use Rattle.std.specs.List.{list_all};
 ghost use Rattle.stapl_code.specs.Machine.{Of, part_slots, slot_of, sides_of, result_of, source_wants, dest_want, export_slots, export_wants, takes, gives, wants};
-ghost use Rattle.stapl_code.specs.Kinds.{off, variable_kind, element_kind, is_of_kind, is_met, put_on, taken_off, clears, all_off, all_on, kinds_behind};
+ghost use Rattle.stapl_code.specs.Kinds.{off, variable_kind, element_kind, is_of_kind, is_met, put_on, taken_off, clears, all_off, all_on, kinds_after};
 
 use crate::scan_wants::{given_is_met, scan_is_met};
 use base::Stack;
@@ -342,7 +342,7 @@ pub fn follow(
     kinds: &mut Stack<ValueKind>,
 ) -> Result<bool, AllocError>
     ensures { IfOk result (λ found.
-        kinds_behind variables.now instr.now kinds.old ≡ (if found then Some kinds.new else None)) }
+        kinds_after variables.now instr.now kinds.old ≡ (if found then Some kinds.new else None)) }
 {
     if !wants_are_met(variables, instr) {
         return Ok(false);

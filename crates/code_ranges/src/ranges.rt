@@ -254,7 +254,7 @@ fn is_instr(
 }
 
 /// Whether a procedure has another name than each of these, and begins after each of them.
-fn is_behind(procedures: &[ProcDef], procedure: &ProcDef) -> bool
+fn is_after(procedures: &[ProcDef], procedure: &ProcDef) -> bool
     ensures { IsTrue result ↔ All (λ p. (p.name ≢ procedure.now.name) × (p.entry < procedure.now.entry)) procedures.now }
 {
     procedures
@@ -266,7 +266,7 @@ fn are_in_order(procedures: &[ProcDef]) -> bool
     ensures { IsTrue result ↔ AllPairs (λ p q. (p.name ≢ q.name) × (p.entry < q.entry)) procedures.now }
 {
     for i in 0..procedures.len() {
-        if !is_behind(&procedures[..i], &procedures[i]) {
+        if !is_after(&procedures[..i], &procedures[i]) {
             return false;
         }
     }

@@ -107,13 +107,13 @@ module _ (code : CodeLists) (range : IsInRange code) where
   search_procedures [] n d = λ i above less within. absurd (omega arith)
   search_procedures (p ∷ ps) n d =
       let e = head_is ps n p d in
-      let behind : drop (n + 1) code.procedures ≡ ps = rw add-one (drop_tail n code.procedures ∙ ap (drop 1) d) in
-      let part = procedure_part p ps n e behind in
+      let after : drop (n + 1) code.procedures ≡ ps = rw add-one (drop_tail n code.procedures ∙ ap (drop 1) d) in
+      let part = procedure_part p ps n e after in
       joined code p.entry (next_entry total ps) total
       (procedure_break code.variables p.entry (slice_range code.instrs p.entry (next_entry total ps))) (procedures_break code.variables code.instrs ps)
       (search_procedure code p.entry (next_entry total ps) part (begins_at n p e) (slice_range code.instrs p.entry (next_entry total ps)) p.entry true [] refl
       (omega arith) (inl refl) (λ some. at_first part.first))
-      (search_procedures ps (n + 1) behind)
+      (search_procedures ps (n + 1) after)
 
   abbrev pub prologue_end : ℕ
   prologue_end = next_entry total code.procedures

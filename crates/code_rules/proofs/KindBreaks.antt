@@ -6,7 +6,7 @@ use Rattle.stapl_code.specs.declared.raw.CodeLists.{CodeLists}
 use Rattle.stapl_code.specs.declared.instr.Instr.{Instr}
 use Rattle.stapl_code.specs.declared.instr.Instr.TheVariants.{Turn}
 use Rattle.stapl_code.specs.Machine.{takes, gives}
-use Rattle.stapl_code.specs.Kinds.{clears, all_off, all_on, kinds_behind}
+use Rattle.stapl_code.specs.Kinds.{clears, all_off, all_on, kinds_after}
 use Rattle.code_rules.specs.Instructions.{IsTurnInstr, Empties}
 use Rattle.code_rules.specs.KindMoves.{MovesKinds, KindsBefore}
 use Rattle.code_rules.specs.Rules.{RuleBreak, operands_missing, variable_of_other_kind, left_before_turn, left_after}
@@ -43,7 +43,7 @@ module _ (code : CodeLists) (i : ℕ) (x : Instr) (ks : List ValueKind) (before 
       operands_missing (reverse ks) before (λ after m. n (reverse after) (kinds_are_moved code.variables x ks after m))
   lack_breaks (leaves_operand below c off some) = left_over below c off some ((clears_agrees x).yes c)
 
-  pub no_kinds_break : kinds_behind code.variables x ks ≡ None → RuleBreak code i x
+  pub no_kinds_break : kinds_after code.variables x ks ≡ None → RuleBreak code i x
   no_kinds_break e = lack_breaks (lacks code.variables x ks e)
 
   pub kinds_are : (kinds : List ValueKind) → KindsBefore code i kinds → kinds ≡ reverse ks

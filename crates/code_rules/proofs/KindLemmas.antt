@@ -12,8 +12,8 @@ use Rattle.stapl_meaning.specs.declared.values.ValueKind.TheVariants.{Int, Bit}
 use Rattle.stapl_code.specs.declared.raw.VarDef.{VarDef}
 use Rattle.stapl_code.specs.declared.instr.Instr.{Instr}
 use Rattle.stapl_code.specs.Machine.{Slot, Of, OfScalar, OfElement, Want, AnInteger, ABoolean, AnArray, OfBits, OfInts, takes, gives, wants}
-use Rattle.stapl_code.specs.Kinds.{off, then_kinds, scalar_kind, variable_kind, item_kind, element_kind, is_of_kind, put_on, taken_off, left_by, clears, slot_kind, is_met, all_off, all_on, kinds_moved, kinds_behind}
-use Rattle.stapl_code.proofs.KindCounts.{then_some, met_and_behind}
+use Rattle.stapl_code.specs.Kinds.{off, then_kinds, scalar_kind, variable_kind, item_kind, element_kind, is_of_kind, put_on, taken_off, left_by, clears, slot_kind, is_met, all_off, all_on, kinds_moved, kinds_after}
+use Rattle.stapl_code.proofs.KindCounts.{then_some, met_and_after}
 use Rattle.code_rules.specs.KindMoves.{scalar_number, array_number, IsVariableOf, IsOfSlot, AreOfSlots, HasWanted, MovesKinds}
 use Rattle.code_rules.proofs.InstructionTests.{Agrees, refused, denied, one_false}
 
@@ -220,11 +220,11 @@ module _ (variables : List VarDef) where
     pub moved : IsMoved x ks after
     pub emptied : clears x ≡ true → moved.below ≡ []
 
-  pub finds_all : (x : Instr) (ks after : List ValueKind) → kinds_behind variables x ks ≡ Some after → FindsAll x ks after
+  pub finds_all : (x : Instr) (ks after : List ValueKind) → kinds_after variables x ks ≡ Some after → FindsAll x ks after
   finds_all x ks after e =
-      let both = met_and_behind variables x ks after e in
-      let behind : List ValueKind → Option (List ValueKind) = λ ks. then_kinds (left_by (clears x) ks) (all_on variables (gives x)) in
-      let t = then_some (all_off variables (takes x) ks) behind after both.1 in
+      let both = met_and_after variables x ks after e in
+      let beyond : List ValueKind → Option (List ValueKind) = λ ks. then_kinds (left_by (clears x) ks) (all_on variables (gives x)) in
+      let t = then_some (all_off variables (takes x) ks) beyond after both.1 in
       let u = then_some (left_by (clears x) t.0) (all_on variables (gives x)) after t.2 in
       let left = left_is (clears x) t.0 u.0 u.1 in
       record {
@@ -264,5 +264,5 @@ module _ (variables : List VarDef) where
   lacks_met x ks false m e =
       let w = find_false (is_met variables) (wants x) m in lacks_variable w.0 w.1 (denied (want_agrees w.0) w.2)
 
-  pub lacks : (x : Instr) (ks : List ValueKind) → kinds_behind variables x ks ≡ None → LacksKinds x ks
+  pub lacks : (x : Instr) (ks : List ValueKind) → kinds_after variables x ks ≡ None → LacksKinds x ks
   lacks x ks e = lacks_met x ks (list_all (is_met variables) (wants x)) refl e

@@ -65,9 +65,9 @@ module _ (code : CodeLists) where
     no_beginning i h less (inr b) = omega (arith, part.inside (suc i) b (omega arith))
 
     -- the kinds before the next instruction
-    pub kinds_after : (i : ℕ) (x : Instr) (kinds after : List ValueKind) → from ≤ i → i + 1 < to → StandsAt code i x → KindsBefore code i kinds →
+    pub kinds_next : (i : ℕ) (x : Instr) (kinds after : List ValueKind) → from ≤ i → i + 1 < to → StandsAt code i x → KindsBefore code i kinds →
         MovesKinds code.variables x kinds after → KindsBefore code (i + 1) after
-    kinds_after i x kinds after h less at before m =
+    kinds_next i x kinds after h less at before m =
         let next : suc i ≡ i + 1 = omega arith in
         subst (λ (n : ℕ). KindsBefore code n after) next (moved x before at (no_beginning i h less) m)
 

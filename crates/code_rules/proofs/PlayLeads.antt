@@ -344,8 +344,8 @@ module _ (code : CodeLists) (chosen : List ℕ) where
     each_from [] n d below = tt
     each_from (p ∷ ps) n d below =
         let at = get_head n chosen ∙ ap head_of d in
-        let behind : drop (n + 1) chosen ≡ ps = rw add-one (drop_tail n chosen ∙ ap (drop 1) d) in
-        (below.0, (n, slice_get_within chosen n p at, get_or_from_slice_get chosen n p p at), each_from ps (n + 1) behind below.1)
+        let after : drop (n + 1) chosen ≡ ps = rw add-one (drop_tail n chosen ∙ ap (drop 1) d) in
+        (below.0, (n, slice_get_within chosen n p at, get_or_from_slice_get chosen n p p at), each_from ps (n + 1) after below.1)
 
     begun : (h : Happened) → AllBelow (length code.procedures) chosen → EndsClean h → HasBegun (begins_chosen (entry_of (entries_of code.procedures)) h)
     begun (Led events place s k) below c =

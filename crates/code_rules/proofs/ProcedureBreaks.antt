@@ -9,7 +9,7 @@ use Rattle.stapl_code.specs.declared.raw.CodeLists.{CodeLists}
 use Rattle.stapl_code.specs.declared.instr.Instr.{Instr}
 use Rattle.stapl_code.specs.declared.instr.Instr.TheVariants.{Turn}
 use Rattle.stapl_code.specs.Machine.{goes_to}
-use Rattle.stapl_code.specs.Kinds.{kinds_behind}
+use Rattle.stapl_code.specs.Kinds.{kinds_after}
 use Rattle.stapl_code.specs.Valid.{is_turn, is_end, departs, is_last, agree, is_target, leads_to, leads_well, rests_well, stands_well, rest_break}
 use Rattle.code_rules.specs.Places.{StandsAt, BeginsAt, IsOfProcedure, EndsPart}
 use Rattle.code_rules.specs.Instructions.{IsTurnInstr, Departs}
@@ -18,7 +18,7 @@ use Rattle.code_rules.specs.Rules.{IsTurnBeside, RuleBreak, foreign_in_prologue,
 use Rattle.code_rules.proofs.InstructionTests.{Agrees, denied, one_false, turn_agrees, end_agrees, departs_agrees, names_goes, goes_names, unstable_found, none_unstable}
 use Rattle.code_rules.proofs.KindLemmas.{FindsAll, finds_all}
 use Rattle.code_rules.proofs.RangeLemmas.{range_cons, range_none, range_goes_on, range_some, range_get}
-use Rattle.code_rules.proofs.PartLemmas.{same_instr, one_procedure, IsOnePart, of_procedure, within_part, begins_only, kinds_after, last_agrees}
+use Rattle.code_rules.proofs.PartLemmas.{same_instr, one_procedure, IsOnePart, of_procedure, within_part, begins_only, kinds_next, last_agrees}
 use Rattle.code_rules.proofs.KindBreaks.{no_kinds_break, moves_on, none_missing, none_before_turn, none_after}
 use Rattle.code_rules.proofs.SearchSteps.{FindsFirst, judged_first}
 
@@ -188,7 +188,7 @@ module _ (code : CodeLists) (from to : ℕ) (part : IsOnePart code from to) (beg
   search_procedure (x ∷ rest) i must ks r h m k =
       let c = range_cons code.instrs i to x rest r in
       let before = k (omega arith) in
-      judged_first code i to x (kinds_behind code.variables x ks) (stands_well from procedure must x (is_last rest))
+      judged_first code i to x (kinds_after code.variables x ks) (stands_well from procedure must x (is_last rest))
       (λ after. rest_break code.variables from procedure (i + 1) (departs x) after rest) c.2 c.1
       (no_kinds_break code i x ks before) (stands_badly i x rest h c.0 c.1 c.3 must m)
       (λ after finds well.
@@ -196,5 +196,5 @@ module _ (code : CodeLists) (from to : ℕ) (part : IsOnePart code from to) (beg
         breaks_none i x rest h c.0 c.1 c.3 ks after before all must m well,
         search_procedure rest (i + 1) (departs x) after c.3 (omega arith) (musts_next i x rest h c.0 c.1 c.3 c.2 (departs x) refl) (λ some.
             let next = range_goes_on code.instrs (i + 1) to rest c.3 some in
-            kinds_after code from to part i x (reverse ks) (reverse after) h next c.2 before (moves_on code i x ks before after all)),
+            kinds_next code from to part i x (reverse ks) (reverse after) h next c.2 before (moves_on code i x ks before after all)),
       ))

@@ -5,7 +5,7 @@ use Rattle.stapl_meaning.specs.declared.values.ValueKind.{ValueKind}
 use Rattle.stapl_code.specs.declared.raw.CodeLists.{CodeLists}
 use Rattle.stapl_code.specs.declared.instr.Instr.{Instr}
 use Rattle.stapl_code.specs.declared.instr.Instr.TheVariants.{Push, PushBit, Store, SetBits, SetInts}
-use Rattle.stapl_code.specs.Kinds.{kinds_behind}
+use Rattle.stapl_code.specs.Kinds.{kinds_after}
 use Rattle.stapl_code.specs.Valid.{is_last, sets_up, kinds_kept, prologue_break}
 use Rattle.code_rules.specs.Places.{BeginsAt, IsOfPrologue, IsOfProcedure, EndsPart}
 use Rattle.code_rules.specs.Instructions.{IsEndProc, SetsUp, HasTarget, WantsStable}
@@ -14,7 +14,7 @@ use Rattle.code_rules.specs.Rules.{RuleBreak, foreign_in_prologue, left_by_prolo
 use Rattle.code_rules.proofs.InstructionTests.{Agrees, denied, set_up_agrees}
 use Rattle.code_rules.proofs.KindLemmas.{FindsAll, finds_all}
 use Rattle.code_rules.proofs.RangeLemmas.{range_cons, range_none, range_goes_on}
-use Rattle.code_rules.proofs.PartLemmas.{IsOnePart, kinds_after, last_agrees}
+use Rattle.code_rules.proofs.PartLemmas.{IsOnePart, kinds_next, last_agrees}
 use Rattle.code_rules.proofs.KindBreaks.{some_reversed, no_kinds_break, moves_on, moves_so, none_missing, none_before_turn, none_after}
 use Rattle.code_rules.proofs.SearchSteps.{FindsFirst, judged_first}
 
@@ -71,8 +71,8 @@ module _ (code : CodeLists) (to : ℕ) (part : IsOnePart code 0 to) (all_before 
     of_none : (entry : ℕ) → IsOfProcedure code entry i → ⊥
     of_none entry p = let above = mine entry p.begins in omega (arith, p.from)
 
-    none_kept : kinds_kept (is_last rest) (kinds_behind code.variables x ks) ≡ None → RuleBreak code i x
-    none_kept e = elim (kept_not (is_last rest) (kinds_behind code.variables x ks) e) [
+    none_kept : kinds_kept (is_last rest) (kinds_after code.variables x ks) ≡ None → RuleBreak code i x
+    none_kept e = elim (kept_not (is_last rest) (kinds_after code.variables x ks) e) [
       | inl none ↦ no_kinds_break code i x ks before none
       | inr left ↦
           let all = finds_all code.variables x ks left.0 left.1 in
@@ -106,14 +106,14 @@ module _ (code : CodeLists) (to : ℕ) (part : IsOnePart code 0 to) (all_before 
   search_prologue (x ∷ rest) i ks r k =
       let c = range_cons code.instrs i to x rest r in
       let before = k (omega arith) in
-      judged_first code i to x (kinds_kept (is_last rest) (kinds_behind code.variables x ks)) (sets_up x)
+      judged_first code i to x (kinds_kept (is_last rest) (kinds_after code.variables x ks)) (sets_up x)
       (λ after. prologue_break code.variables (i + 1) after rest) c.2 c.1
       (none_kept i x rest c.0 c.1 c.3 ks before) (foreign i x rest c.0 c.1 c.3 ks before)
       (λ after kept well.
-      let finds = kept_is (is_last rest) (kinds_behind code.variables x ks) after kept in
+      let finds = kept_is (is_last rest) (kinds_after code.variables x ks) after kept in
       let all = finds_all code.variables x ks after finds.0 in (
         breaks_none i x rest c.0 c.1 c.3 ks before after all finds.1 ((set_up_agrees x).yes well),
         search_prologue rest (i + 1) after c.3 (λ some.
             let next = range_goes_on code.instrs (i + 1) to rest c.3 some in
-            kinds_after code 0 to part i x (reverse ks) (reverse after) (omega arith) next c.2 before (moves_on code i x ks before after all)),
+            kinds_next code 0 to part i x (reverse ks) (reverse after) (omega arith) next c.2 before (moves_on code i x ks before after all)),
       ))

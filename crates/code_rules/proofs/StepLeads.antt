@@ -291,12 +291,12 @@ module _ (code : CodeLists) (chosen : List ℕ) where
       call_leads : (here p : ℕ) (s : State) → StandsAt code here (Call p) → IsOfProcedure code entry here → IsRunning entry s → (vs : List Value) →
           IfKnown (DidLeads entry from here (Call p)) (called (suc here) vs s)
       call_leads here p s at within r [] =
-          let behind : here + 1 ≡ suc here = omega arith in
+          let after : here + 1 ≡ suc here = omega arith in
           let there = in_range code range valid here (Call p) at in
           let begins = begins_of p there in
           let called_here : FollowsCall code (entry_of (entries_of code.procedures) p) (suc here) =
-          record { before = here; procedure = p; entry_is = entry_at code range valid p there; call = at; next = behind } in
-          let comes_back = subst (IsTurnIn code entry) behind (turn_follows code range valid entry here (Call p) at within (λ h. h) tt) in
+          record { before = here; procedure = p; entry_is = entry_at code range valid p there; call = at; next = after } in
+          let comes_back = subst (IsTurnIn code entry) after (turn_follows code range valid entry here (Call p) at within (λ h. h) tt) in
           let arrives : Arrives from (entry_of (entries_of code.procedures) p) (with_records s (Called (suc here) ∷ s.records)) = record {
             may = calls entry here p own within at (entry_at code range valid p there);
             entry = entry_of (entries_of code.procedures) p;

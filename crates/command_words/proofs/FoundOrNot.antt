@@ -26,10 +26,10 @@ one_more k w key word (inl same) (inl found) = inl (found.0, rw (same, found.1) 
 one_more k w key word (inl same) (inr none) = inr (λ rest e. none rest cc)
 one_more k w key word (inr differs) found = inr (λ rest e. differs cc)
 
-behind_key : (key word : List ℕ) → IsFoundOrNot (λ (rest : List ℕ). word ≡ key ++ rest)
-behind_key [] word = inl (word, refl)
-behind_key (k ∷ key) [] = inr (λ rest e. cc)
-behind_key (k ∷ key) (w ∷ word) = one_more k w key word (cases_eq w k) (behind_key key word)
+after_key : (key word : List ℕ) → IsFoundOrNot (λ (rest : List ℕ). word ≡ key ++ rest)
+after_key [] word = inl (word, refl)
+after_key (k ∷ key) [] = inr (λ rest e. cc)
+after_key (k ∷ key) (w ∷ word) = one_more k w key word (cases_eq w k) (after_key key word)
 
 -- Whether a word gives a value, by whether what stands after the key spells one.
 
@@ -55,8 +55,8 @@ path_spelled (b ∷ rest) = inl (b ∷ rest, (refl, λ e. cc))
 pub path_or_not : (key word : List ℕ) → IsFoundOrNot (NamesPath key word)
 path_or_not key word =
     in_word key word (λ (rest path : List ℕ). (path ≡ rest) × (path ≢ [])) (NamesPath key word)
-    (λ rest path behind p. (behind ∙ ap (λ (z : List ℕ). key ++ z) (sym p.0), p.1))
-    (λ path p. (path, p.0, (refl, p.1))) path_spelled (behind_key key word)
+    (λ rest path after p. (after ∙ ap (λ (z : List ℕ). key ++ z) (sym p.0), p.1))
+    (λ path p. (path, p.0, (refl, p.1))) path_spelled (after_key key word)
 
 -- A name.
 
@@ -67,8 +67,8 @@ name_spelled_so rest false e = inr (λ name p. false≢true (sym e ∙ p.spelled
 pub free_name_or_not : (key word : List ℕ) → IsFoundOrNot (NamesFreeName key word)
 free_name_or_not key word =
     in_word key word SpellsFreeName (NamesFreeName key word)
-    (λ rest name behind p. record { spelling = rest; keyed = behind; spells = p }) (λ name p. (p.spelling, p.keyed, p.spells))
-    (λ rest. name_spelled_so rest (is_free_name rest) refl) (behind_key key word)
+    (λ rest name after p. record { spelling = rest; keyed = after; spells = p }) (λ name p. (p.spelling, p.keyed, p.spells))
+    (λ rest. name_spelled_so rest (is_free_name rest) refl) (after_key key word)
 
 -- Names.
 
@@ -79,8 +79,8 @@ names_spelled_so rest false e = inr (λ names p. false≢true (sym e ∙ p.spell
 pub list_or_not : (key word : List ℕ) → IsFoundOrNot (NamesList key word)
 list_or_not key word =
     in_word key word SpellsNames (NamesList key word)
-    (λ rest names behind p. record { spelling = rest; keyed = behind; spells = p }) (λ names p. (p.spelling, p.keyed, p.spells))
-    (λ rest. names_spelled_so rest (list_all is_free_name (parts_between_commas rest)) refl) (behind_key key word)
+    (λ rest names after p. record { spelling = rest; keyed = after; spells = p }) (λ names p. (p.spelling, p.keyed, p.spells))
+    (λ rest. names_spelled_so rest (list_all is_free_name (parts_between_commas rest)) refl) (after_key key word)
 
 -- A number.
 
@@ -107,8 +107,8 @@ spelled_or_not least most rest =
 pub number_or_not : (key : List ℕ) (least most : ℕ) (word : List ℕ) → IsFoundOrNot (NamesNumber key least most word)
 number_or_not key least most word =
     in_word key word (SpellsNumber least most) (NamesNumber key least most word)
-    (λ rest n behind p. record { spelling = rest; keyed = behind; number = p }) (λ n p. (p.spelling, p.keyed, p.number))
-    (spelled_or_not least most) (behind_key key word)
+    (λ rest n after p. record { spelling = rest; keyed = after; number = p }) (λ n p. (p.spelling, p.keyed, p.number))
+    (spelled_or_not least most) (after_key key word)
 
 -- A run of places.
 
@@ -125,7 +125,7 @@ no_cut (x ∷ front) back e = cc
 
 -- if they do not begin a text, they stand so in its rest
 cut_later : (b : ℕ) (rest front back : List ℕ) → (b ∷ rest) ≡ front ++ (codes ".." ++ back) → list_all is_ascii_digit front ≡ true →
-    ((behind : List ℕ) → (b ∷ rest) ≡ codes ".." ++ behind → ⊥) → HasCut rest × (is_ascii_digit b ≡ true)
+    ((after : List ℕ) → (b ∷ rest) ≡ codes ".." ++ after → ⊥) → HasCut rest × (is_ascii_digit b ≡ true)
 cut_later b rest [] back e d none = absurd (none back e)
 cut_later b rest (x ∷ front) back e d none =
     let both = and_parts (is_ascii_digit x) (list_all is_ascii_digit front) d in
@@ -135,9 +135,9 @@ cut_later b rest (x ∷ front) back e d none =
 
 cut_or_not : (rest : List ℕ) → HasCut rest ⊎ (HasCut rest → ⊥)
 cut_or_not [] = inr (λ h. no_cut h.front h.back h.whole)
-cut_or_not (b ∷ rest) = by (behind_key (codes "..") (b ∷ rest)) (is_ascii_digit b) refl (cut_or_not rest)
+cut_or_not (b ∷ rest) = by (after_key (codes "..") (b ∷ rest)) (is_ascii_digit b) refl (cut_or_not rest)
   where
-    by : IsFoundOrNot (λ (behind : List ℕ). (b ∷ rest) ≡ codes ".." ++ behind) → (digit : Bool) → is_ascii_digit b ≡ digit →
+    by : IsFoundOrNot (λ (after : List ℕ). (b ∷ rest) ≡ codes ".." ++ after) → (digit : Bool) → is_ascii_digit b ≡ digit →
         HasCut rest ⊎ (HasCut rest → ⊥) → HasCut (b ∷ rest) ⊎ (HasCut (b ∷ rest) → ⊥)
     by (inl found) digit is later = inl (record { front = []; back = found.0; whole = found.1; digits = refl })
     by (inr none) false is later = inr (λ h. false≢true (sym is ∙ (cut_later b rest h.front h.back h.whole h.digits none).1))
@@ -169,8 +169,8 @@ run_spelled_so most rest (inr none) (inl cut) = by_first (spelled_or_not 1 most 
 pub run_or_not : (key : List ℕ) (most : ℕ) (word : List ℕ) → IsFoundOrNot (NamesRun key most word)
 run_or_not key most word =
     in_word key word (SpellsRun most) (NamesRun key most word)
-    (λ rest run behind p. record { spelling = rest; keyed = behind; spells = p }) (λ run p. (p.spelling, p.keyed, p.spells))
-    (λ rest. run_spelled_so most rest (spelled_or_not 1 most rest) (cut_or_not rest)) (behind_key key word)
+    (λ rest run after p. record { spelling = rest; keyed = after; spells = p }) (λ run p. (p.spelling, p.keyed, p.spells))
+    (λ rest. run_spelled_so most rest (spelled_or_not 1 most rest) (cut_or_not rest)) (after_key key word)
 
 -- An answer.
 
@@ -194,5 +194,5 @@ answer_spelled_so rest (inr not_yes) (inr not_no) = inr neither
 pub answer_or_not : (key word : List ℕ) → IsFoundOrNot (SaysAnswer key word)
 answer_or_not key word =
     in_word key word (λ (rest : List ℕ) (answer : Bool). rest ≡ answer_word answer) (SaysAnswer key word)
-    (λ rest answer behind p. behind ∙ ap (λ (z : List ℕ). key ++ z) p) (λ answer p. (answer_word answer, p, refl))
-    (λ rest. answer_spelled_so rest (same_or_not rest (answer_word true)) (same_or_not rest (answer_word false))) (behind_key key word)
+    (λ rest answer after p. after ∙ ap (λ (z : List ℕ). key ++ z) p) (λ answer p. (answer_word answer, p, refl))
+    (λ rest. answer_spelled_so rest (same_or_not rest (answer_word true)) (same_or_not rest (answer_word false))) (after_key key word)

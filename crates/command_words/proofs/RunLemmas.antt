@@ -106,14 +106,14 @@ one_run key most word a b x y =
 
 pub no_run : (word key rest : List ℕ) (most : ℕ) (found : Option PlaceRun) → word ≡ key ++ rest →
     IfNone found ((run : PlaceRun) → SpellsRun most rest run → ⊥) → IfNone found ((run : PlaceRun) → NamesRun key most word run → ⊥)
-no_run word key rest most (Some n) behind none = tt
-no_run word key rest most None behind none = λ n x.
-    none n (subst (λ (z : List ℕ). SpellsRun most z n) (same_rest key x.spelling rest (sym x.keyed ∙ behind)) x.spells)
+no_run word key rest most (Some n) after none = tt
+no_run word key rest most None after none = λ n x.
+    none n (subst (λ (z : List ℕ). SpellsRun most z n) (same_rest key x.spelling rest (sym x.keyed ∙ after)) x.spells)
 
 pub some_run : (word key rest : List ℕ) (most : ℕ) (found : Option PlaceRun) → word ≡ key ++ rest →
     IfSome found (SpellsRun most rest) → IfSome found (NamesRun key most word)
-some_run word key rest most (Some n) behind spells = record { spelling = rest; keyed = behind; spells = spells }
-some_run word key rest most None behind spells = tt
+some_run word key rest most (Some n) after spells = record { spelling = rest; keyed = after; spells = spells }
+some_run word key rest most None after spells = tt
 
 pub if_none : {A : Type 0} {P : Type 0} (o : Option A) → P → IfNone o P
 if_none None p = p

@@ -46,9 +46,9 @@ one_answer key word a b x y = same_answer a b (same_rest key (answer_word a) (an
 
 pub no_number : (word key rest : List ℕ) (least most : ℕ) (found : Option ℕ) → word ≡ key ++ rest →
     IfNone found ((n : ℕ) → SpellsNumber least most rest n → ⊥) → IfNone found ((n : ℕ) → NamesNumber key least most word n → ⊥)
-no_number word key rest least most (Some n) behind none = tt
-no_number word key rest least most None behind none = λ n x.
-    none n (subst (λ (z : List ℕ). SpellsNumber least most z n) (same_rest key x.spelling rest (sym x.keyed ∙ behind)) x.number)
+no_number word key rest least most (Some n) after none = tt
+no_number word key rest least most None after none = λ n x.
+    none n (subst (λ (z : List ℕ). SpellsNumber least most z n) (same_rest key x.spelling rest (sym x.keyed ∙ after)) x.number)
 
 -- Names that are spelled between commas are those that are read.
 

@@ -48,9 +48,9 @@ bits_of_block cs tdi n last =
     ap (λ m. low_bits m (board_block cs tdi n last)) (sym (length_of_block cs tdi n last)) ∙ low_bits-number_of (tdos (clocks_of cs (block_inputs tdi n last)))
 
 -- a block with what a board answers at TDI
-block_behind : (cs : List Card) (tdi n : ℕ) (last : Bool) →
+block_after : (cs : List Card) (tdi n : ℕ) (last : Bool) →
     with_tdis (block_inputs tdi n last) (tdos (clocks_of cs (block_inputs tdi n last))) ≡ block_inputs (board_block cs tdi n last) n last
-block_behind cs tdi n last =
+block_after cs tdi n last =
     let out : List Bool = tdos (clocks_of cs (block_inputs tdi n last)) in
     part_with_tdis last (low_bits n tdi) out (length-low_bits n tdi ∙ sym (length_of_block cs tdi n last))
     ∙ ap (part_inputs last) (sym (bits_of_block cs tdi n last))
@@ -58,10 +58,10 @@ block_behind cs tdi n last =
 pub shifts_card_by_card : (c : Card) (cs : List Card) (tdi n : ℕ) (last : Bool) → ShiftsCardByCard c cs tdi n last
 shifts_card_by_card c cs tdi n last =
     let all = runs_card_by_card c cs (block_inputs tdi n last) in
-    let behind = block_behind cs tdi n last in
+    let after = block_after cs tdi n last in
     record {
-      tdo = ap number_of (all.tdo ∙ ap (card_tdos c) behind);
-      board = all.board ∙ ap (λ z. card_after c z ∷ board_after_block cs tdi n last) behind;
+      tdo = ap number_of (all.tdo ∙ ap (card_tdos c) after);
+      board = all.board ∙ ap (λ z. card_after c z ∷ board_after_block cs tdi n last) after;
     }
 
 -- The next clock of a block, and the rest of it.

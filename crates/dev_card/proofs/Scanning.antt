@@ -101,10 +101,10 @@ length_of_captured at s clocks h =
     let a : ℕ = s.paddings.base_pre + length s.paddings.pre in
     let seen : List Bool = tdos clocks in
     let M : List Bool = scan_bits s in
-    let behind : List Input = pause_inputs ++ stop_inputs s.ir s.stop in
+    let beyond : List Input = pause_inputs ++ stop_inputs s.ir s.stop in
     let entry : length (entry_inputs at s.ir) ≡ e = length-map (entry_tms at s.ir) _ in
-    let all : length (inputs_of_scan at s) ≡ e + (length M + length behind) =
-    omega (arith, length-append (entry_inputs at s.ir) (shift_inputs M ++ behind), entry, length-append (shift_inputs M) behind, length_of_shift M) in
+    let all : length (inputs_of_scan at s) ≡ e + (length M + length beyond) =
+    omega (arith, length-append (entry_inputs at s.ir) (shift_inputs M ++ beyond), entry, length-append (shift_inputs M) beyond, length_of_shift M) in
     omega (
       arith,
       h,

@@ -21,8 +21,8 @@ rotated-length ring = rw (drop-length ring, take-length ring) (sym (append-nil r
 ring_moved : (head : ℕ) (ring : List Bool) (b : Bool) (at_end : Bool) → (head + 1 == length ring) ≡ at_end → head < length ring →
     rotated (cond at_end 0 (head + 1)) (set ring head b) ≡ shifted (rotated head ring) b
 ring_moved head ring b true e h =
-    let behind : length (set ring head b) ≡ head + 1 = length-set ring head b ∙ sym (eqb-true (head + 1) (length ring) e) in
-    sym (rotated-length (set ring head b)) ∙ ap (λ n. rotated n (set ring head b)) behind ∙ rotated-set head ring b h
+    let after : length (set ring head b) ≡ head + 1 = length-set ring head b ∙ sym (eqb-true (head + 1) (length ring) e) in
+    sym (rotated-length (set ring head b)) ∙ ap (λ n. rotated n (set ring head b)) after ∙ rotated-set head ring b h
 ring_moved head ring b false e h = rotated-set head ring b h
 
 -- a ring in front of unused room loses its first bit and gets one as its last

@@ -262,9 +262,9 @@ module _ (P : RunFault → Type 0) where
   pub pushed_does : (v : Value) (s : State) → (16384 ≤ length s.records → P RecordsFull) → Does P (pushed (v ∷ []) s)
   pushed_does v s p = room_does s _ tt p
 
-  pub called_does : (behind : ℕ) (vs : List Value) (s : State) → (16384 ≤ length s.records → P RecordsFull) → Does P (called behind vs s)
-  called_does behind [] s p = room_does s _ tt p
-  called_does behind (v ∷ vs) s p = tt
+  pub called_does : (after : ℕ) (vs : List Value) (s : State) → (16384 ≤ length s.records → P RecordsFull) → Does P (called after vs s)
+  called_does after [] s p = room_does s _ tt p
+  called_does after (v ∷ vs) s p = tt
 
   loop_breaks : (l : Loop) (records : List Record) (z : ℤ) (s : State) → Breaks P (with_loop l records z s)
   loop_breaks l records z s =
@@ -272,24 +272,24 @@ module _ (P : RunFault → Type 0) where
       (λ variables. Known (with_variables (with_records s (Looped l ∷ records)) variables))
       (scalar_breaks s.store.variables l.variable (slice_get s.store.variables l.variable) (Int z)) (λ list e. tt)
 
-  pub looped_does : (n behind : ℕ) (first limit step : Value) (s : State) →
+  pub looped_does : (n after : ℕ) (first limit step : Value) (s : State) →
       ((a b : ℤ) → first ≡ Int a → limit ≡ Int b → step ≡ Int (pos 0) → P ZeroStep) →
       ((a b z : ℤ) → first ≡ Int a → limit ≡ Int b → step ≡ Int z → z ≢ pos 0 → 16384 ≤ length s.records → P RecordsFull) →
-      Does P (looped n behind (first ∷ limit ∷ step ∷ []) s)
-  looped_does n behind (Bit a) limit step s zero_case full_case = tt
-  looped_does n behind (Int a) (Bit b) step s zero_case full_case = tt
-  looped_does n behind (Int a) (Int b) (Bit c) s zero_case full_case = tt
-  looped_does n behind (Int a) (Int b) (Int z) s zero_case full_case = by (int_eq z (pos 0)) refl
+      Does P (looped n after (first ∷ limit ∷ step ∷ []) s)
+  looped_does n after (Bit a) limit step s zero_case full_case = tt
+  looped_does n after (Int a) (Bit b) step s zero_case full_case = tt
+  looped_does n after (Int a) (Int b) (Bit c) s zero_case full_case = tt
+  looped_does n after (Int a) (Int b) (Int z) s zero_case full_case = by (int_eq z (pos 0)) refl
     where
       begins : Got Did
-      begins = then_get (with_loop (record { variable = n; limit = b; step = z; place = behind }) s.records a s) (λ t. Known (Falls [] t))
+      begins = then_get (with_loop (record { variable = n; limit = b; step = z; place = after }) s.records a s) (λ t. Known (Falls [] t))
 
       by : (t : Bool) → int_eq z (pos 0) ≡ t → Does P (if t then Faults ZeroStep else with_room s begins)
       by true e = zero_case a b refl refl (ap Int ((Decides-int_eq z (pos 0)).0 e))
       by false e =
           room_does s begins
-          (then_does P (with_loop (record { variable = n; limit = b; step = z; place = behind }) s.records a s) (λ t. Known (Falls [] t))
-          (loop_breaks (record { variable = n; limit = b; step = z; place = behind }) s.records a s) (λ t e. tt))
+          (then_does P (with_loop (record { variable = n; limit = b; step = z; place = after }) s.records a s) (λ t. Known (Falls [] t))
+          (loop_breaks (record { variable = n; limit = b; step = z; place = after }) s.records a s) (λ t e. tt))
           (full_case a b z refl refl refl (λ is. let also : int_eq z (pos 0) ≡ true = (Decides-int_eq z (pos 0)).1 is in absurd cc))
 
   nearest_breaks : (n : ℕ) (records : List Record) → (HasNoLoop n records → P NoRecord) → Breaks P (nearest_loop n records)

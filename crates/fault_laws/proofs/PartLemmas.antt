@@ -12,7 +12,7 @@ use Rattle.stapl_meaning.specs.declared.values.Value.TheVariants.{Int, Bit}
 use Rattle.stapl_meaning.specs.declared.values.Held.{Held}
 use Rattle.stapl_meaning.specs.declared.values.Held.TheVariants as held
 use Rattle.stapl_meaning.specs.Values.{Got, Known, Faults, Stuck, then_get, is_index, passed, index_held, bits_held, Span, span_of, range_held, of_programs, Lookup, value_of}
-use Rattle.stapl_meaning.specs.Operands.{Plain, Character, Index, Range, Operand, plain, an_integer, a_character, an_index, array_operands, target_operands, compare_operands, part_operands, character_of, tested, operand_value, values_behind, printed_kind}
+use Rattle.stapl_meaning.specs.Operands.{Plain, Character, Index, Range, Operand, plain, an_integer, a_character, an_index, array_operands, target_operands, compare_operands, part_operands, character_of, tested, operand_value, values_after, printed_kind}
 use Rattle.stapl_meaning.specs.Turns.{operands}
 use Rattle.stapl_meaning.specs.Scopes.{Scope}
 use Rattle.fault_laws.specs.Limits.{IsOutside, IsNoIndex}
@@ -114,11 +114,11 @@ same_list (Known vs) = refl
 same_list (Faults k) = refl
 same_list Stuck = refl
 
-two_behind : (x y : Value) (g : Got (List Value)) →
+two_after : (x y : Value) (g : Got (List Value)) →
     then_get (then_get g (λ vs. Known (y ∷ vs))) (λ vs. Known (x ∷ vs)) ≡ then_get g (λ vs. Known (x ∷ (y ∷ vs)))
-two_behind x y (Known vs) = refl
-two_behind x y (Faults k) = refl
-two_behind x y Stuck = refl
+two_after x y (Known vs) = refl
+two_after x y (Faults k) = refl
+two_after x y Stuck = refl
 
 -- a variable that has bits
 pub record HoldsBits (o : Option Held) : Type 0 where
@@ -143,21 +143,21 @@ last_of before (v ∷ vs) = last_of (Some v) vs
 module _ (look : Lookup) (variables : List Held) where
   -- the values of an operand, and then those of the others
   abbrev one_then : Got Value → List Operand → Got (List Value)
-  one_then g os = then_get g (λ v. then_get (values_behind look variables (Some v) os) (λ vs. Known (v ∷ vs)))
+  one_then g os = then_get g (λ v. then_get (values_after look variables (Some v) os) (λ vs. Known (v ∷ vs)))
 
   -- ---- what the values of parts are, or where they break
 
   one_gives : (p : Part) (ps : List Part) (g : Got Value) → Gives (λ v. PartIs look variables p (v ∷ [])) (PartBreaks look variables p) g →
-      ((v : Value) → Gives (PartsAre look variables ps) (PartsBreak look variables ps) (values_behind look variables (Some v) (operands_of look ps))) →
+      ((v : Value) → Gives (PartsAre look variables ps) (PartsBreak look variables ps) (values_after look variables (Some v) (operands_of look ps))) →
       Gives (PartsAre look variables (p ∷ ps)) (PartsBreak look variables (p ∷ ps)) (one_then g (operands_of look ps))
   one_gives p ps g h others =
       let P : RunFault → Type 0 = PartsBreak look variables (p ∷ ps) in
       let Q : List Value → Type 0 = PartsAre look variables (p ∷ ps) in
       let here : Value → Type 0 = λ v. PartIs look variables p (v ∷ []) in
-      then_gives here Q P g (λ v. then_get (values_behind look variables (Some v) (operands_of look ps)) (λ vs. Known (v ∷ vs)))
+      then_gives here Q P g (λ v. then_get (values_after look variables (Some v) (operands_of look ps)) (λ vs. Known (v ∷ vs)))
       (gives_more here (PartBreaks look variables p) P g (λ k b. first_part b) h)
       (λ v _ is.
-      let rest : Got (List Value) = values_behind look variables (Some v) (operands_of look ps) in
+      let rest : Got (List Value) = values_after look variables (Some v) (operands_of look ps) in
       then_gives (PartsAre look variables ps) Q P rest (λ vs. Known (v ∷ vs))
       (gives_more (PartsAre look variables ps) (PartsBreak look variables ps) P rest (λ k b. later_part is b) (others v))
       (λ vs _ are. more_parts is are))
@@ -213,11 +213,11 @@ module _ (look : Lookup) (variables : List Held) where
       (range_is i j (length bs) (e ∙ ap Known is_i) (f ∙ ap Known is_j) (ap bit_count o) first_in second_in))
 
   -- an array without indexes has no values
-  same_behind : (before : Option Value) (a : ArrayTree) (ps : List Part) → ArrayIs look variables a [] →
-      Gives (PartsAre look variables ps) (PartsBreak look variables ps) (values_behind look variables before (operands_of look ps)) →
+  same_after : (before : Option Value) (a : ArrayTree) (ps : List Part) → ArrayIs look variables a [] →
+      Gives (PartsAre look variables ps) (PartsBreak look variables ps) (values_after look variables before (operands_of look ps)) →
       Gives (PartsAre look variables (array_part a ∷ ps)) (PartsBreak look variables (array_part a ∷ ps))
-      (values_behind look variables before (operands_of look ps))
-  same_behind before a ps is h = by (values_behind look variables before (operands_of look ps)) h
+      (values_after look variables before (operands_of look ps))
+  same_after before a ps is h = by (values_after look variables before (operands_of look ps)) h
     where
       by : (g : Got (List Value)) → Gives (PartsAre look variables ps) (PartsBreak look variables ps) g →
           Gives (PartsAre look variables (array_part a ∷ ps)) (PartsBreak look variables (array_part a ∷ ps)) g
@@ -226,9 +226,9 @@ module _ (look : Lookup) (variables : List Held) where
       by Stuck b = tt
 
   range_then_gives : (before : Option Value) (name : List ℕ) (first second : ExprTree) (ps : List Part) →
-      ((v : Value) → Gives (PartsAre look variables ps) (PartsBreak look variables ps) (values_behind look variables (Some v) (operands_of look ps))) →
+      ((v : Value) → Gives (PartsAre look variables ps) (PartsBreak look variables ps) (values_after look variables (Some v) (operands_of look ps))) →
       Gives (PartsAre look variables (array_part (range name first second) ∷ ps)) (PartsBreak look variables (array_part (range name first second) ∷ ps))
-      (values_behind look variables before (array_operands look (range name first second) ++ operands_of look ps))
+      (values_after look variables before (array_operands look (range name first second) ++ operands_of look ps))
   range_then_gives before name first second ps others =
       let p : Part = array_part (range name first second) in
       let P : RunFault → Type 0 = PartsBreak look variables (p ∷ ps) in
@@ -237,27 +237,27 @@ module _ (look : Lookup) (variables : List Held) where
       let os : List Operand = operands_of look ps in
       let ends : Value → List Value → Type 0 = λ x vs. Q (x ∷ vs) in
       then_gives (λ x. value_of look variables kinds.Int first ≡ Known x) Q P (operand_value look variables before (an_integer first))
-      (λ x. then_get (values_behind look variables (Some x) (second_operand ∷ os)) (λ vs. Known (x ∷ vs)))
+      (λ x. then_get (values_after look variables (Some x) (second_operand ∷ os)) (λ vs. Known (x ∷ vs)))
       (test_gives (λ x. value_of look variables kinds.Int first ≡ Known x) P kinds.Int first (tested look variables Plain before)
       (λ k h. first_part (of_part_array (of_first h))) (λ x known. known))
       (λ x _ known.
-      then_gives (ends x) Q P (values_behind look variables (Some x) (second_operand ∷ os)) (λ vs. Known (x ∷ vs))
+      then_gives (ends x) Q P (values_after look variables (Some x) (second_operand ∷ os)) (λ vs. Known (x ∷ vs))
       (let is_range : Value → Type 0 = λ y. ArrayIs look variables (range name first second) (x ∷ y ∷ []) in
       then_gives is_range (ends x) P (operand_value look variables (Some x) second_operand)
-      (λ y. then_get (values_behind look variables (Some y) os) (λ vs. Known (y ∷ vs)))
+      (λ y. then_get (values_after look variables (Some y) os) (λ vs. Known (y ∷ vs)))
       (test_gives is_range P kinds.Int second (tested look variables (Range (look.variable name)) (Some x))
       (λ k h. first_part (of_part_array (of_second x known h)))
       (λ y known2. gives_more is_range (ArrayBreaks look variables (range name first second)) P (range_held of_programs (held_by look variables name) x y)
       (λ k h. first_part (of_part_array h)) (range_gives name first second x y known known2)))
       (λ y _ is.
-      then_gives (PartsAre look variables ps) (ends x) P (values_behind look variables (Some y) os) (λ vs. Known (y ∷ vs))
-      (gives_more (PartsAre look variables ps) (PartsBreak look variables ps) P (values_behind look variables (Some y) os)
+      then_gives (PartsAre look variables ps) (ends x) P (values_after look variables (Some y) os) (λ vs. Known (y ∷ vs))
+      (gives_more (PartsAre look variables ps) (PartsBreak look variables ps) P (values_after look variables (Some y) os)
       (λ k b. later_part (array_is is) b) (others y))
       (λ vs _ are. more_parts (array_is is) are)))
       (λ vs _ h. h))
 
   pub parts_give : (before : Option Value) (ps : List Part) →
-      Gives (PartsAre look variables ps) (PartsBreak look variables ps) (values_behind look variables before (operands_of look ps))
+      Gives (PartsAre look variables ps) (PartsBreak look variables ps) (values_after look variables before (operands_of look ps))
   parts_give before [] = no_parts
   parts_give before (value_part kind e ∷ ps) =
       one_gives (value_part kind e) ps (operand_value look variables before (plain kind e))
@@ -275,8 +275,8 @@ module _ (look : Lookup) (variables : List Held) where
       (tested look variables (Index (look.variable name)) before) (λ k h. of_target_index h)
       (λ v known. index_gives name e v known (held_by look variables name) refl))
       (λ v. parts_give (Some v) ps)
-  parts_give before (array_part (bit_literal bits) ∷ ps) = same_behind before (bit_literal bits) ps literal_is (parts_give before ps)
-  parts_give before (array_part (whole name) ∷ ps) = same_behind before (whole name) ps whole_is (parts_give before ps)
+  parts_give before (array_part (bit_literal bits) ∷ ps) = same_after before (bit_literal bits) ps literal_is (parts_give before ps)
+  parts_give before (array_part (whole name) ∷ ps) = same_after before (whole name) ps whole_is (parts_give before ps)
   parts_give before (array_part (of_int e) ∷ ps) =
       one_gives (array_part (of_int e)) ps (operand_value look variables before (an_integer e))
       (test_gives (λ v. PartIs look variables (array_part (of_int e)) (v ∷ [])) (PartBreaks look variables (array_part (of_int e))) kinds.Int e
@@ -330,20 +330,20 @@ module _ (look : Lookup) (variables : List Held) where
   range_known o i j size sized first_in second_in =
       let b : HoldsBits o = holds_bits o size sized in span_known o i j size (λ bits span. Int (pos j)) b.bits b.is sized first_in second_in
 
-  part_behind : {p : Part} {us : List Value} (before : Option Value) → PartIs look variables p us → (ps : List Part) →
-      values_behind look variables before (operands_of look (p ∷ ps))
-      ≡ then_get (values_behind look variables (last_of before us) (operands_of look ps)) (λ vs. Known (us ++ vs))
-  part_behind before (value_is v known) ps = ap (λ g. one_then (then_get g (tested look variables Plain before)) (operands_of look ps)) known
-  part_behind before (character_is n known few) ps =
+  part_after : {p : Part} {us : List Value} (before : Option Value) → PartIs look variables p us → (ps : List Part) →
+      values_after look variables before (operands_of look (p ∷ ps))
+      ≡ then_get (values_after look variables (last_of before us) (operands_of look ps)) (λ vs. Known (us ++ vs))
+  part_after before (value_is v known) ps = ap (λ g. one_then (then_get g (tested look variables Plain before)) (operands_of look ps)) known
+  part_after before (character_is n known few) ps =
       ap (λ g. one_then g (operands_of look ps)) (then_known (tested look variables Character before) known ∙ character_known n few)
-  part_behind before (index_is {name = name} i size known sized inside) ps =
+  part_after before (index_is {name = name} i size known sized inside) ps =
       ap (λ g. one_then g (operands_of look ps))
       (then_known (tested look variables (Index (look.variable name)) before) known ∙ index_known (held_by look variables name) i size sized inside)
-  part_behind before (array_is literal_is) ps = same_list (values_behind look variables before (operands_of look ps))
-  part_behind before (array_is whole_is) ps = same_list (values_behind look variables before (operands_of look ps))
-  part_behind before (array_is (integer_is v known)) ps =
+  part_after before (array_is literal_is) ps = same_list (values_after look variables before (operands_of look ps))
+  part_after before (array_is whole_is) ps = same_list (values_after look variables before (operands_of look ps))
+  part_after before (array_is (integer_is v known)) ps =
       ap (λ g. one_then (then_get g (tested look variables Plain before)) (operands_of look ps)) known
-  part_behind before (array_is (range_is {name = name} {second = second} i j size is_i is_j sized first_in second_in)) ps =
+  part_after before (array_is (range_is {name = name} {second = second} i j size is_i is_j sized first_in second_in)) ps =
       let o : Option Held = held_by look variables name in
       let os : List Operand = operands_of look ps in
       let second_operand : Operand = record { expr = second; kind = kinds.Int; test = Range (look.variable name) } in
@@ -351,16 +351,16 @@ module _ (look : Lookup) (variables : List Held) where
       then_known (range_held of_programs o (Int (pos i))) is_j ∙ range_known o i j size sized first_in second_in in
       ap (λ g. one_then (then_get g (tested look variables Plain before)) (second_operand ∷ os)) is_i
       ∙ ap (λ g. then_get (one_then g os) (λ vs. Known (Int (pos i) ∷ vs))) tested_range
-      ∙ two_behind (Int (pos i)) (Int (pos j)) (values_behind look variables (Some (Int (pos j))) os)
+      ∙ two_after (Int (pos i)) (Int (pos j)) (values_after look variables (Some (Int (pos j))) os)
 
   pub parts_known : {ps : List Part} {vs : List Value} (before : Option Value) → PartsAre look variables ps vs →
-      values_behind look variables before (operands_of look ps) ≡ Known vs
+      values_after look variables before (operands_of look ps) ≡ Known vs
   parts_known before no_parts = refl
   parts_known before (more_parts {ps = ps} {us = us} is are) =
-      part_behind before is ps ∙ then_known (λ vs. Known (us ++ vs)) (parts_known (last_of before us) are)
+      part_after before is ps ∙ then_known (λ vs. Known (us ++ vs)) (parts_known (last_of before us) are)
 
   part_faults : {p : Part} {k : RunFault} (before : Option Value) → PartBreaks look variables p k → (ps : List Part) →
-      values_behind look variables before (operands_of look (p ∷ ps)) ≡ Faults k
+      values_after look variables before (operands_of look (p ∷ ps)) ≡ Faults k
   part_faults before (of_value h) ps =
       ap (λ g. one_then (then_get g (tested look variables Plain before)) (operands_of look ps)) (expr_faults look variables h)
   part_faults before (of_character h) ps =
@@ -393,7 +393,7 @@ module _ (look : Lookup) (variables : List Held) where
       ap (λ g. one_then (then_get g (tested look variables Plain before)) (operands_of look ps)) (expr_faults look variables h)
 
   pub parts_fault : {ps : List Part} {k : RunFault} (before : Option Value) → PartsBreak look variables ps k →
-      values_behind look variables before (operands_of look ps) ≡ Faults k
+      values_after look variables before (operands_of look ps) ≡ Faults k
   parts_fault before (first_part {ps = ps} b) = part_faults before b ps
   parts_fault before (later_part {ps = ps} {us = us} is b) =
-      part_behind before is ps ∙ then_faults (λ vs. Known (us ++ vs)) (parts_fault (last_of before us) b)
+      part_after before is ps ∙ then_faults (λ vs. Known (us ++ vs)) (parts_fault (last_of before us) b)

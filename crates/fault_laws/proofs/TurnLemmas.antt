@@ -45,14 +45,14 @@ BreaksOnly P s (Scanning deeds scan rest) = (bits : List Bool) → NeverFaults (
 BreaksOnly P s (NoTurn deeds) = Unit {0}
 
 -- the same of what follows no deeds, by a wider relation
-behind_nothing : (P R : RunFault → Type 0) (s : State) (t : Turned) → ((k : RunFault) → P k → R k) → BreaksOnly P s t → BreaksOnly R s (preceded [] t)
-behind_nothing P R s (Leads deeds place t) f h = tt
-behind_nothing P R s (Over deeds (Exit z) t) f h = tt
-behind_nothing P R s (Over deeds Spent t) f h = tt
-behind_nothing P R s (Over deeds (Fault k piece) t) f h = absurd h
-behind_nothing P R s (Broken deeds k t) f h = (h.0, h.1, f k h.2)
-behind_nothing P R s (Scanning deeds scan rest) f h = h
-behind_nothing P R s (NoTurn deeds) f h = tt
+after_nothing : (P R : RunFault → Type 0) (s : State) (t : Turned) → ((k : RunFault) → P k → R k) → BreaksOnly P s t → BreaksOnly R s (preceded [] t)
+after_nothing P R s (Leads deeds place t) f h = tt
+after_nothing P R s (Over deeds (Exit z) t) f h = tt
+after_nothing P R s (Over deeds Spent t) f h = tt
+after_nothing P R s (Over deeds (Fault k piece) t) f h = absurd h
+after_nothing P R s (Broken deeds k t) f h = (h.0, h.1, f k h.2)
+after_nothing P R s (Scanning deeds scan rest) f h = h
+after_nothing P R s (NoTurn deeds) f h = tt
 
 jumps_only : (P : RunFault → Type 0) (s : State) (to : Option ℕ) (t : State) → BreaksOnly P s (jumps_to to t)
 jumps_only P s None t = tt
@@ -94,7 +94,7 @@ module _ (scope : Scope) (s : State) where
       Breaks (ExprBreaks scope.look s.store.variables kinds.Bit e) g → BreaksOnly (StatementBreaks scope s body) s (done scope s body) →
       BreaksOnly (StatementBreaks scope s (if_then e body)) s (if_done e body g)
   if_only e body (Known (Bit true)) is h of_body =
-      behind_nothing (StatementBreaks scope s body) (StatementBreaks scope s (if_then e body)) s (done scope s body) (λ k h. (h.0, inner is h.1, h.2)) of_body
+      after_nothing (StatementBreaks scope s body) (StatementBreaks scope s (if_then e body)) s (done scope s body) (λ k h. (h.0, inner is h.1, h.2)) of_body
   if_only e body (Known (Bit false)) is h of_body = tt
   if_only e body (Known (Int z)) is h of_body = tt
   if_only e body (Faults k) is h of_body = (refl, refl, (if_then e body, itself, of_parts (first_part (of_value h))))

@@ -127,9 +127,9 @@ tdo_of_some : (cs : List Card) (s t : Bool) → 0 < length cs → board_tdo cs s
 tdo_of_some [] s t some = absurd (omega (arith, some))
 tdo_of_some (c ∷ cs) s t some = refl
 
-none_behind : (more : List ℕ) (a : ℕ) → is_none (more ++ a ∷ []) ≡ false
-none_behind [] a = refl
-none_behind (b ∷ more) a = refl
+none_after : (more : List ℕ) (a : ℕ) → is_none (more ++ a ∷ []) ≡ false
+none_after [] a = refl
+none_after (b ∷ more) a = refl
 
 -- what one clock over a wire with this state leaves, where its first answer was received
 clocked_open : (tms tdi tdo tck : Bool) (cs : List Card) (mid new : Option WireState) (answer : ℕ) → 0 < length cs
@@ -157,7 +157,7 @@ clocked_by tms tdi tdo tck states.Open cs [] mid new answer some m h is =
     clocked_open tms tdi tdo tck cs mid new answer some (m ∙ ap (λ s. Some s) (open_sent tms tdi tck cs [])) h is
 clocked_by tms tdi tdo tck states.Open cs (a ∷ more) mid new answer some m h is =
     clocked_untold tms tdi tdo (in_state tck states.Open cs (a ∷ more)) _ mid new answer refl (m ∙ ap (λ s. Some s) (open_sent tms tdi tck cs (a ∷ more)))
-    (ap (λ t. cond t (Some (board_step cs tms tdi)) None) (none_behind more (digit_of (board_tdo cs false)))) h
+    (ap (λ t. cond t (Some (board_step cs tms tdi)) None) (none_after more (digit_of (board_tdo cs false)))) h
 clocked_by tms tdi tdo tck states.Quit cs waiting mid new answer some m h is =
     clocked_untold tms tdi tdo (in_state tck states.Quit cs waiting) _ mid new answer refl m refl h
 clocked_by tms tdi tdo tck states.Bad cs waiting mid new answer some m h is =

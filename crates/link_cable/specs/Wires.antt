@@ -19,7 +19,7 @@ pub record WireState : Type 0 where
 abbrev pub most_waiting : ℕ
 most_waiting = 64
 
--- after these bytes were taken: the run of the link over them, and its answers behind those that wait
+-- after these bytes were taken: the run of the link over them, and its answers after those that wait
 abbrev pub sent : WireState → List ℕ → WireState
 sent s bytes = record { at = (link_run s.at bytes).end; waiting = s.waiting ++ (link_run s.at bytes).answers }
 

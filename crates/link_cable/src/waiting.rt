@@ -39,7 +39,7 @@ impl Waiting {
         MOST_WAITING - self.filled
     }
 
-    /// Puts answers behind those that wait.
+    /// Puts answers after those that wait.
     pub fn put(&mut self, answers: &[u8])
         requires { length self.old + length answers.now ≤ 64 }
         ensures { self.new ≡ self.old ++ answers.now }

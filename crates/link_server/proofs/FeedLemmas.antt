@@ -29,18 +29,18 @@ pub record IsAt (start : LinkAt) (bytes old_buffer : List ℕ) (n : ℕ) (now : 
   pub answers : answers_to start bytes ≡ front ++ answers_to (record { link = now; board = board }) (drop n bytes)
   pub taken : count_taken start bytes ≡ fed.taken + count_taken (record { link = now; board = board }) (drop n bytes)
 
--- one answer at most is put behind those before
-put_behind : (front old buffer more : List ℕ) → length front < length old → length more ≤ 1 → buffer ≡ front ++ drop (length front) old
+-- one answer at most is put after those before
+put_after : (front old buffer more : List ℕ) → length front < length old → length more ≤ 1 → buffer ≡ front ++ drop (length front) old
     → with_answer buffer (length front) more ≡ (front ++ more) ++ drop (length (front ++ more)) old
-put_behind front old buffer [] lt few e =
+put_after front old buffer [] lt few e =
     e ∙ ap (λ (xs : List ℕ). xs ++ drop (length xs) old) (sym (append-nil front))
-put_behind front old buffer (a ∷ []) lt few e =
+put_after front old buffer (a ∷ []) lt few e =
     let n : length (front ++ a ∷ []) ≡ length front + 1 = length-append front (a ∷ []) in
     ap (λ (xs : List ℕ). slice_set xs (length front) a) (e ∙ ap (λ (xs : List ℕ). front ++ xs) (drop_more old (length front) a lt))
     ∙ set-append_seam front _ (drop (length front + 1) old) a
     ∙ sym (append_assoc front (a ∷ []) (drop (length front + 1) old))
     ∙ ap (λ k. (front ++ a ∷ []) ++ drop k old) (sym n)
-put_behind front old buffer (a ∷ b ∷ more) lt few e = absurd (omega (arith, few))
+put_after front old buffer (a ∷ b ∷ more) lt few e = absurd (omega (arith, few))
 
 pub one_at_most : (at : LinkAt) (b : ℕ) → length (answer_to_byte at b) ≤ 1
 one_at_most at b = by_state (is_open at.link.state) (order_of b)
@@ -72,7 +72,7 @@ one_more start bytes old_buffer n b now new told new_told buffer new_buffer befo
       stands = one.board;
       front = h.front ++ answer_to_byte at b;
       buffer_is = one.answers ∙ ap (λ k. with_answer buffer k (answer_to_byte at b)) h.answered
-          ∙ put_behind h.front old_buffer buffer (answer_to_byte at b) lt (one_at_most at b) h.buffer_is;
+          ∙ put_after h.front old_buffer buffer (answer_to_byte at b) lt (one_at_most at b) h.buffer_is;
       answered = one.answered ∙ ap (λ k. k + length (answer_to_byte at b)) h.answered ∙ sym (length-append h.front (answer_to_byte at b));
       after = h.after ∙ ap (link_after at) next ∙ ap (λ a. link_after a (drop (n + 1) bytes)) (sym here);
       answers = h.answers ∙ ap (λ xs. h.front ++ answers_to at xs) next ∙ sym (append_assoc h.front (answer_to_byte at b) (answers_to (after_byte at b) (drop (n + 1) bytes)))

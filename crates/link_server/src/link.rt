@@ -73,7 +73,7 @@ impl Link {
         }
     }
 
-    // Takes one byte: an answer is put behind those that were put before.
+    // Takes one byte: an answer is put after those that were put before.
     fn feed_byte<D: Device>(
         &mut self,
         rack: &mut Vec<D>,

@@ -219,7 +219,7 @@ pub taken_more : {K T E : Type 0} {written : K → Option (List ℕ)} {old new :
 taken_more {old = old} {cs = cs} {front = front} h first last =
     h.count ∙ ap (λ k. old.taken + k) (all_taken (session_at old cs) front first (ap (λ (l : Link). is_open l.state) (sym h.link) ∙ last))
 
--- nothing is behind a piece that was fed whole
+-- nothing is after a piece that was fed whole
 pub none_left : (n : ℕ) (xs rest : List ℕ) → length xs ≤ n → drop n xs ++ rest ≡ rest
 none_left n xs rest le = ap (λ (ys : List ℕ). ys ++ rest) (drop_of_length-le xs le)
 

@@ -32,7 +32,7 @@ pub record HasTaken {K T E : Type 0} (written : K → Option (List ℕ)) (old : 
   pub front : OnErr result (MovesFront (taken written before)
       (link_run (session_at old board) bytes).answers (taken written after))
 
--- how a session stands after so many bytes, if more or none were read behind them
+-- how a session stands after so many bytes, if more or none were read after them
 abbrev pub status_after : LinkState → ℕ → Bool → Option LinkStatus
 status_after states.Quit n more = Some Done
 status_after states.Bad n more = Some (BadByte n)

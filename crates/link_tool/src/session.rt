@@ -44,7 +44,7 @@ impl Session {
         (MOST_BYTES - self.taken) as usize
     }
 
-    /// How it stands, if more or none was read behind what it was fed.
+    /// How it stands, if more or none was read after what it was fed.
     pub(crate) fn status(&self, is_more: bool) -> Option<LinkStatus>
         ensures { result ≡ status_after self.now.link.state self.now.taken is_more }
     {

@@ -16,7 +16,7 @@ use bit_list::Bits;
 use machine_memory::effects::Made;
 use machine_memory::operate::Stop;
 use machine_memory::part_bits::{copy_turned, first_places, part_word, turn_within};
-use machine_memory::parts::{Part, Span, behind, holder, literal_at, place, range, whole};
+use machine_memory::parts::{Part, Span, after, holder, literal_at, place, range, whole};
 use stapl_code::{CodeLists, Dest, Source};
 use stapl_meaning::{Held, Profile, RunFault, Value};
 
@@ -153,7 +153,7 @@ fn copy_literal(
         (state_with chosen records ir dr variables.old.items))) }
 {
     let part = place(profile, variables, dest, values)?;
-    match behind(dest, values) {
+    match after(dest, values) {
         [] => {
             put_literal(variables, part, literal);
             Ok(Made::On)
@@ -176,7 +176,7 @@ fn copy_whole(
         (state_with chosen records ir dr variables.old.items))) }
 {
     let part = place(profile, variables, dest, values)?;
-    match behind(dest, values) {
+    match after(dest, values) {
         [] => {
             let from = whole(variables, from)?;
             copy_part(variables, part, from)
@@ -199,7 +199,7 @@ fn copy_range(
         (state_with chosen records ir dr variables.old.items))) }
 {
     let part = place(profile, variables, dest, values)?;
-    match behind(dest, values) {
+    match after(dest, values) {
         [first, second] => {
             let from = range(profile, variables, from, *first, *second)?;
             copy_part(variables, part, from)
@@ -242,7 +242,7 @@ fn copy_integer(
         (state_with chosen records ir dr variables.old.items))) }
 {
     let part = place(profile, variables, dest, values)?;
-    match behind(dest, values) {
+    match after(dest, values) {
         [value] => fill_integer(variables, part, *value),
         _ => Err(Stop::Wrong),
     }

@@ -29,7 +29,7 @@ use Rattle.machine_memory.specs.declared.parts.Part.{Part}
 use Rattle.machine_memory.specs.declared.parts.Span.{Span}
 use Rattle.machine_memory.specs.Found.{IsGot}
 use Rattle.machine_memory.proofs.PrintLemmas.{item_at}
-use Rattle.machine_memory.specs.Arrays.{with_bits, span_in, HasPart, part_held, whole_span, range_span, IsFound, array_of, dest_span, behind_dest, with_part, bits_put, first_bits}
+use Rattle.machine_memory.specs.Arrays.{with_bits, span_in, HasPart, part_held, whole_span, range_span, IsFound, array_of, dest_span, after_dest, with_part, bits_put, first_bits}
 use Rattle.machine_memory.specs.Arrays.{part_asked, integer_asked}
 use Rattle.machine_memory.proofs.SpanLemmas.{length_span}
 
@@ -81,7 +81,7 @@ never (Some (held.Bits bs)) go = refl
 pub copied_parts : (profile : Profile) (dest : Dest) (source : values.Source) (vs : List Value) (s : State) →
     copied (target_of profile dest) source vs s
     ≡ then_get (part_held (slice_get s.store.variables (array_of dest)) (dest_span profile dest vs))
-    (span_written (array_of dest) (bits_in (slice_get s.store.variables (array_of dest))) source (behind_dest dest vs) s)
+    (span_written (array_of dest) (bits_in (slice_get s.store.variables (array_of dest))) source (after_dest dest vs) s)
 copied_parts profile (dests.Whole n) source vs s =
     parts_then (slice_get s.store.variables n) whole_span (λ old. span_written n old source vs s)
 copied_parts profile (dests.Range n) source (first ∷ second ∷ vs) s =
@@ -91,13 +91,13 @@ copied_parts profile (dests.Range n) source (first ∷ []) s = never (slice_get 
 
 -- the part is known
 pub copied_at : (profile : Profile) (dest : Dest) (source : values.Source) (vs rest : List Value) (part : Part) (s : State) →
-    IsFound s.store.variables (array_of dest) (dest_span profile dest vs) part → behind_dest dest vs ≡ rest →
+    IsFound s.store.variables (array_of dest) (dest_span profile dest vs) part → after_dest dest vs ≡ rest →
     copied (target_of profile dest) source vs s
     ≡ span_written part.array (bits_in (slice_get s.store.variables part.array)) source rest s (span_in part.span)
 copied_at profile dest source vs rest part s found e =
     copied_parts profile dest source vs s
-    ∙ ap (λ g. then_get g (span_written (array_of dest) (bits_in (slice_get s.store.variables (array_of dest))) source (behind_dest dest vs) s)) found.span
-    ∙ ap (λ n. span_written n (bits_in (slice_get s.store.variables n)) source (behind_dest dest vs) s (span_in part.span)) (sym found.array)
+    ∙ ap (λ g. then_get g (span_written (array_of dest) (bits_in (slice_get s.store.variables (array_of dest))) source (after_dest dest vs) s)) found.span
+    ∙ ap (λ n. span_written n (bits_in (slice_get s.store.variables n)) source (after_dest dest vs) s (span_in part.span)) (sym found.array)
     ∙ ap (λ l. span_written part.array (bits_in (slice_get s.store.variables part.array)) source l s (span_in part.span)) e
 
 all_of : (array : Option Held) → bits_held array ≡ then_get (part_held array whole_span) (λ span. Known (span_bits span (bits_in array)))
@@ -135,7 +135,7 @@ part_inside (Some array) span h = h.inside
 -- what an instruction that copies does
 module _ (profile : Profile) (dest : Dest) (vs : List Value) (part : Part) (chosen : List ℕ) (records : List Record) (ir dr : ScanSettings)
     (variables : List Held) (found : IsFound variables (array_of dest) (dest_span profile dest vs) part) where
-  pub copied_integer : (v : Value) → behind_dest dest vs ≡ v ∷ [] →
+  pub copied_integer : (v : Value) → after_dest dest vs ≡ v ∷ [] →
       copied (target_of profile dest) OfInt vs (state_with chosen records ir dr variables) ≡ bits_put variables part
       (state_with chosen records ir dr variables) (integer_asked part v)
   copied_integer (Int z) e =
@@ -159,7 +159,7 @@ module _ (profile : Profile) (dest : Dest) (vs : List Value) (part : Part) (chos
         asked_taken part.span.count from.span (bits_in (slice_get variables from.array))
         (part_inside (slice_get variables from.array) from.span is.is_part.has)
 
-  pub copied_whole : (n : ℕ) (from : Part) → IsFound variables n whole_span from → behind_dest dest vs ≡ [] →
+  pub copied_whole : (n : ℕ) (from : Part) → IsFound variables n whole_span from → after_dest dest vs ≡ [] →
       copied (target_of profile dest) (Whole n) vs (state_with chosen records ir dr variables) ≡ bits_put variables part
       (state_with chosen records ir dr variables) (part_asked variables part from)
   copied_whole n from is e =
@@ -170,7 +170,7 @@ module _ (profile : Profile) (dest : Dest) (vs : List Value) (part : Part) (chos
       ∙ ap (bits_put variables part (state_with chosen records ir dr variables)) (asked_there n whole_span from is)
 
   pub copied_range : (n : ℕ) (first second : Value) (from : Part) → IsFound variables n (range_span profile first second) from →
-      behind_dest dest vs ≡ first ∷ second ∷ [] →
+      after_dest dest vs ≡ first ∷ second ∷ [] →
       copied (target_of profile dest) (Range profile n) vs (state_with chosen records ir dr variables) ≡ bits_put variables part
       (state_with chosen records ir dr variables) (part_asked variables part from)
   copied_range n first second from is e =

@@ -72,9 +72,9 @@ dest_span profile (dests.Whole n) vs count = whole_span count
 dest_span profile (dests.Range n) (first ∷ second ∷ vs) count = span_of profile count first second
 dest_span profile (dests.Range n) _ count = Stuck
 
-abbrev pub behind_dest : Dest → List Value → List Value
-behind_dest (dests.Whole n) vs = vs
-behind_dest (dests.Range n) vs = drop 2 vs
+abbrev pub after_dest : Dest → List Value → List Value
+after_dest (dests.Whole n) vs = vs
+after_dest (dests.Range n) vs = drop 2 vs
 
 -- the variables with these bits in the first places of a part of an array
 abbrev pub with_bits : Held → Span → List Bool → Held

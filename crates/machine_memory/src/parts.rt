@@ -6,7 +6,7 @@ ghost use Rattle.stapl_meaning.specs.States.{State};
 ghost use Rattle.stapl_code.specs.Machine.{kept};
 ghost use Rattle.machine_memory.specs.Found.{IsGot};
 ghost use Rattle.machine_memory.specs.Acts.{IsMade, Told};
-ghost use Rattle.machine_memory.specs.Arrays.{span_in, whole_span, range_span, HasSpan, IsPart, IsPartOf, array_of, dest_span, behind_dest};
+ghost use Rattle.machine_memory.specs.Arrays.{span_in, whole_span, range_span, HasSpan, IsPart, IsPartOf, array_of, dest_span, after_dest};
 
 use crate::effects::Made;
 use crate::operate::Stop;
@@ -181,8 +181,8 @@ pub fn place(
 }
 
 /// The values after those of a destination.
-pub fn behind(dest: Dest, values: &[Value]) -> &[Value]
-    ensures { result.now ≡ behind_dest dest values.now }
+pub fn after(dest: Dest, values: &[Value]) -> &[Value]
+    ensures { result.now ≡ after_dest dest values.now }
 {
     match dest {
         Dest::Whole(_) => values,

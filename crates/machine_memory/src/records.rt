@@ -78,18 +78,18 @@ pub fn pop_value(records: &mut RecordStack, kind: ValueKind) -> Result<Made, Sto
 }
 
 /// A procedure is called. A record keeps the place after.
-pub fn call(records: &mut RecordStack, behind: u32, values: &[Value]) -> Result<Made, Stop>
+pub fn call(records: &mut RecordStack, after: u32, values: &[Value]) -> Result<Made, Stop>
     ensures { (told : Told) (chosen : List ℕ) (ir dr : ScanSettings) (variables : List Held) →
         IsMade result told (state_with chosen (reverse records.old.items) ir dr variables)
         (state_with chosen (reverse records.new.items) ir dr variables)
-        (does (called behind values.now (state_with chosen (reverse records.old.items) ir dr variables))) }
+        (does (called after values.now (state_with chosen (reverse records.old.items) ir dr variables))) }
 {
     match values {
         [] => {
             if is_full(records) {
                 return Err(Stop::Fault(RunFault::RecordsFull));
             }
-            records.push(Record::Called(behind));
+            records.push(Record::Called(after));
             Ok(Made::Jump)
         }
         _ => Err(Stop::Wrong),

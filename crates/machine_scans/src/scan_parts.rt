@@ -100,7 +100,7 @@ fn front(values: &[Value], count: usize) -> &[Value]
     &values[..count.min(values.len())]
 }
 
-fn behind(values: &[Value], count: usize) -> &[Value]
+fn after(values: &[Value], count: usize) -> &[Value]
     ensures { result.now ≡ drop count values.now }
 {
     &values[count.min(values.len())..]
@@ -157,10 +157,10 @@ fn find_compared(
 {
     let wide = source_takes(compare.expected);
     let expected = find_known(code, compare.expected, front(values, wide), variables)?;
-    let values = behind(values, wide);
+    let values = after(values, wide);
     let wide = source_takes(compare.mask);
     let mask = find_known(code, compare.mask, front(values, wide), variables)?;
-    let cell = find_cell(compare.cell, behind(values, wide), variables)?;
+    let cell = find_cell(compare.cell, after(values, wide), variables)?;
     Ok(ComparedAt {
         expected,
         mask,
@@ -200,10 +200,10 @@ pub fn find_parts(
 {
     let wide = source_takes(scan.source);
     let source = find_known(code, scan.source, front(values, wide), variables)?;
-    let values = behind(values, wide);
+    let values = after(values, wide);
     let wide = target_takes(scan.target);
     let target = find_target(code.profile, scan.target, front(values, wide), variables)?;
-    let compare = find_compare(code, scan.compare, behind(values, wide), variables)?;
+    let compare = find_compare(code, scan.compare, after(values, wide), variables)?;
     Ok(PartsAt {
         source,
         target,

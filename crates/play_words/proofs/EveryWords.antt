@@ -103,8 +103,8 @@ IsReadOrNot words n = ((values : Values) × AreReadUpTo words n values) ⊎ ((pl
 
 one_more : (words : List (List ℕ)) (n : ℕ) (values : Values) → 0 < n → n < length words → AreReadUpTo words n values →
     ((new : Values) × AddsWord values (word_at words n) new) ⊎ AddsNothing values (word_at words n) → IsReadOrNot words (n + 1)
-one_more words n values behind within r (inl adds) = inl (adds.0, one_word_more words n values adds.0 behind r adds.1)
-one_more words n values behind within r (inr none) = inr (n, adds_nothing words n values behind within r none)
+one_more words n values after within r (inl adds) = inl (adds.0, one_word_more words n values adds.0 after r adds.1)
+one_more words n values after within r (inr none) = inr (n, adds_nothing words n values after within r none)
 
 read_or_not : (words : List (List ℕ)) (mode : Mode) → HasMode words mode → (n : ℕ) → n < length words → IsReadOrNot words (n + 1)
 read_or_not words mode has zero within =

@@ -161,28 +161,28 @@ one_mode words a b x y = same_word a b (sym x ∙ y)
 
 -- Read words give at most one part of each key.
 
-new_behind : (words : List (List ℕ)) (place : ℕ) → 0 < place → IsRead words place → (mode : Mode) × HasMode words mode × GivesNew mode words place
-new_behind words zero behind read = absurd (omega arith)
-new_behind words (suc place) behind read = read
+new_after : (words : List (List ℕ)) (place : ℕ) → 0 < place → IsRead words place → (mode : Mode) × HasMode words mode × GivesNew mode words place
+new_after words zero after read = absurd (omega arith)
+new_after words (suc place) after read = read
 
 -- not where one of them stands before the other
 not_before : (words : List (List ℕ)) (p q : Part) (n : ℕ) (place : ℕ) → key_of p ≡ key_of q → IsGivenBefore words place p → 0 < place → IsRead words place →
     GivesPart (word_at words place) q → ⊥
-not_before words p q n place same earlier behind read gives =
-    let r = (new_behind words place behind read).2 in
+not_before words p q n place same earlier after read gives =
+    let r = (new_after words place after read).2 in
     r.new p earlier (same ∙ ap key_of (one_part (word_at words place) q r.part gives r.gives))
 
 given_at : (words : List (List ℕ)) (p : Part) (place n : ℕ) → 0 < place → place < n → GivesPart (word_at words place) p → IsGivenBefore words n p
-given_at words p place n behind before gives = record { place = place; behind = behind; before = before; gives = gives }
+given_at words p place n after before gives = record { place = place; after = after; before = before; gives = gives }
 
 pub one_given : (words : List (List ℕ)) (n : ℕ) (p q : Part) → AreReadBefore words n → key_of p ≡ key_of q → IsGivenBefore words n p →
     IsGivenBefore words n q → p ≡ q
 one_given words n p q read same x y =
     elim (cases_lt x.place y.place) [
-      | inl lt ↦ absurd (not_before words p q n y.place same (given_at words p x.place y.place x.behind lt x.gives) y.behind (read y.place y.before) y.gives)
+      | inl lt ↦ absurd (not_before words p q n y.place same (given_at words p x.place y.place x.after lt x.gives) y.after (read y.place y.before) y.gives)
       | inr le ↦ elim (cases_lt y.place x.place) [
-        | inl lt ↦ absurd (not_before words q p n x.place (sym same) (given_at words q y.place x.place y.behind lt y.gives)
-            x.behind (read x.place x.before) x.gives)
+        | inl lt ↦ absurd (not_before words q p n x.place (sym same) (given_at words q y.place x.place y.after lt y.gives)
+            x.after (read x.place x.before) x.gives)
         | inr ge ↦
             let at : y.place ≡ x.place = omega arith in
             one_part (word_at words x.place) p q x.gives (subst (λ (k : ℕ). GivesPart (word_at words k) q) at y.gives)
@@ -207,7 +207,7 @@ nothing_read words values mode b p k a d s l t w r e = record {
     first_is (suc place) lt = absurd (omega arith)
 
     not_given : (part : Part) → IsGivenBefore words 1 part → ⊥
-    not_given part g = let behind = g.behind in let before = g.before in omega arith
+    not_given part g = let after = g.after in let before = g.before in omega arith
 
     none_given : (key : WordKey) → GiveOf words 1 key (given_of values key)
     none_given Board = rw b (λ part e g. not_given part g)
@@ -227,14 +227,14 @@ keeps : (words : List (List ℕ)) (n : ℕ) (key : WordKey) (part : Part) (found
     GiveOf words n key found → GiveOf words (n + 1) key found
 keeps words n key part None gives other none = λ p e g.
     elim (cases_lt g.place n) [
-      | inl lt ↦ none p e (given_at words p g.place n g.behind lt g.gives)
+      | inl lt ↦ none p e (given_at words p g.place n g.after lt g.gives)
       | inr ge ↦
           let w = g.before in
           let at : g.place ≡ n = omega arith in
           other (ap key_of (one_part (word_at words n) part p gives (subst (λ (k : ℕ). GivesPart (word_at words k) p) at g.gives)) ∙ e)
     ]
 keeps words n key part (Some p) gives other found =
-    let g = found.1 in let w = g.before in (found.0, given_at words p g.place (n + 1) g.behind (omega arith) g.gives)
+    let g = found.1 in let w = g.before in (found.0, given_at words p g.place (n + 1) g.after (omega arith) g.gives)
 
 -- what is known of each key where a part is read whose key is free
 gives_key : (words : List (List ℕ)) (n : ℕ) (values : Values) (part : Part) → IsGivenBefore words (n + 1) part →
@@ -271,8 +271,8 @@ counted values (PinsWritten written) e = let none = none_back PinsWritten values
 counted values (DevicesReported reported) e = let none = none_back DevicesReported values.report e in omega arith
 
 read_new : (words : List (List ℕ)) (mode : Mode) (place : ℕ) → 0 < place → HasMode words mode → GivesNew mode words place → IsRead words place
-read_new words mode zero behind has new = absurd (omega arith)
-read_new words mode (suc place) behind has new = (mode, has, new)
+read_new words mode zero after has new = absurd (omega arith)
+read_new words mode (suc place) after has new = (mode, has, new)
 
 read_more : (words : List (List ℕ)) (n : ℕ) → AreReadBefore words n → IsRead words n → AreReadBefore words (n + 1)
 read_more words n before here place lt =
@@ -303,12 +303,12 @@ same_mode values (DevicesReported reported) = refl
 one_part_more : (words : List (List ℕ)) (n : ℕ) (part : Part) (old new : Values) → 0 < n → AreReadUpTo words n old →
     GivesPart (word_at words n) part → Adds old part new →
     AreReadUpTo words (n + 1) new
-one_part_more words n part old new behind r gives adds = record {
+one_part_more words n part old new after r gives adds = record {
   mode = subst (HasMode words) (sym (ap (λ (v : Values). v.mode) adds.added ∙ same_mode old part)) r.mode;
-  read = read_more words n r.read (read_new words old.mode n behind r.mode (new_part words n part old (r.give (key_of part)) adds.free adds.taken gives));
+  read = read_more words n r.read (read_new words old.mode n after r.mode (new_part words n part old (r.give (key_of part)) adds.free adds.taken gives));
   give = λ key.
       subst (λ (z : Values). GiveOf words (n + 1) key (given_of z key)) (sym adds.added)
-      (gives_key words n old part (given_at words part n (n + 1) behind (omega arith) gives)
+      (gives_key words n old part (given_at words part n (n + 1) after (omega arith) gives)
       (λ k other. keeps words n k part (given_of old k) gives other (r.give k)) key);
   few =
       let f = r.few in
@@ -319,7 +319,7 @@ one_part_more words n part old new behind r gives adds = record {
 
 pub one_word_more : (words : List (List ℕ)) (n : ℕ) (old new : Values) → 0 < n → AreReadUpTo words n old → AddsWord old (word_at words n) new →
     AreReadUpTo words (n + 1) new
-one_word_more words n old new behind r adds = one_part_more words n adds.part old new behind r adds.gives adds.adds
+one_word_more words n old new after r adds = one_part_more words n adds.part old new after r adds.gives adds.adds
 
 -- the same count in another form
 pub read_so_far : {words : List (List ℕ)} {n m : ℕ} {values : Values} → n ≡ m → AreReadUpTo words n values → AreReadUpTo words m values
@@ -348,9 +348,9 @@ few_read {values = values} r =
 
 -- The first word that is not read.
 
-unread_behind : (words : List (List ℕ)) (mode : Mode) (place : ℕ) → 0 < place → HasMode words mode → (GivesNew mode words place → ⊥) → IsRead words place → ⊥
-unread_behind words mode place behind has none read =
-    let r = new_behind words place behind read in
+unread_after : (words : List (List ℕ)) (mode : Mode) (place : ℕ) → 0 < place → HasMode words mode → (GivesNew mode words place → ⊥) → IsRead words place → ⊥
+unread_after words mode place after has none read =
+    let r = new_after words place after read in
     none (subst (λ (m : Mode). GivesNew m words place) (one_mode words r.0 mode r.1 has) r.2)
 
 not_true : (b : Bool) → b ≡ false → b ≡ true → ⊥
@@ -358,10 +358,10 @@ not_true b e f = cc
 
 pub adds_nothing : (words : List (List ℕ)) (place : ℕ) (values : Values) → 0 < place → place < length words → AreReadUpTo words place values →
     AddsNothing values (word_at words place) → IsFirstUnread words place
-adds_nothing words place values behind within r none = record {
+adds_nothing words place values after within r none = record {
   within = within;
   before = r.read;
-  unread = unread_behind words values.mode place behind r.mode (λ new. not_new new (none.refused new.part new.gives));
+  unread = unread_after words values.mode place after r.mode (λ new. not_new new (none.refused new.part new.gives));
 }
   where
     not_new : (new : GivesNew values.mode words place) → Refuses values new.part → ⊥

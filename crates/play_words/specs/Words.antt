@@ -127,7 +127,7 @@ HasMode words mode = word_at words 0 ≡ mode_word mode
 -- One of the first n words, after the mode, gives this part.
 pub record IsGivenBefore (words : List (List ℕ)) (n : ℕ) (part : Part) : Type 0 where
   pub place : ℕ
-  pub behind : 0 < place
+  pub after : 0 < place
   pub before : place < n
   pub gives : GivesPart (word_at words place) part
 

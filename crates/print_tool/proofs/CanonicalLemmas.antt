@@ -59,7 +59,7 @@ check_is_good text sts program small words (holds_none none) = tt
 check_is_good text sts program small words (holds_one stored word e last) =
     let own = checked_statements sts in
     let here = canonical_program text sts program small in
-    good_check_word sts last.pieces last.piece stored word last.behind (program_printable text sts program) last.cut last.last
+    good_check_word sts last.pieces last.piece stored word last.after (program_printable text sts program) last.cut last.last
     (last_check (slice_get own (length own - 1)) stored (printable_at own (length own - 1) (program_printable (canonical_text sts) own here)) e) last.tokens
 
 -- ---- the same program

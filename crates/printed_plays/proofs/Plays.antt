@@ -8,7 +8,7 @@ use Rattle.stapl_syntax.specs.Trees.{BodyTree, crc, StmtTree, ItemTree}
 use Rattle.stapl_syntax.specs.Statements.{begins_procedure}
 use Rattle.stapl_meaning.specs.Deeds.{Chain}
 use Rattle.stapl_meaning.specs.States.{State, begun, turn_of_piece, happens}
-use Rattle.stapl_meaning.specs.Scopes.{Scope, data_behind, plays, idle, pieces_from, Preset, preset_of, presets_from, Played, as_played, block_at}
+use Rattle.stapl_meaning.specs.Scopes.{Scope, data_after, plays, idle, pieces_from, Preset, preset_of, presets_from, Played, as_played, block_at}
 use Rattle.stapl_meaning.specs.Scopes.{procedure_before, procedure_number, entry_from, scope_of, scope_in, scope_at, zeros_of}
 use Rattle.stapl_meaning.specs.Choices.{choice_of, choice_among, items_before, items_from, chosen as chosen_are, bad_choice, are_choices, item_runs}
 use Rattle.stapl_meaning.specs.Turns.{carried, done, turn_of, turn}
@@ -24,7 +24,7 @@ begins_plain : (body : BodyTree) → begins_procedure (plain_body body) ≡ begi
 begins_plain (crc n) = refl
 begins_plain _ = refl
 
-data_plain : (now : Option (List ℕ)) (body : BodyTree) → data_behind now (plain_body body) ≡ data_behind now body
+data_plain : (now : Option (List ℕ)) (body : BodyTree) → data_after now (plain_body body) ≡ data_after now body
 data_plain now (crc n) = refl
 data_plain now _ = refl
 
@@ -58,15 +58,15 @@ pieces_plain : (now : Option (List ℕ)) (sts : List StmtTree) → pieces_from n
 pieces_plain now [] = refl
 pieces_plain now (st ∷ sts) =
     ap (λ (v : List StmtTree). (cond (plays now (plain_body st.body)) (plain st) idle) ∷ v)
-    (ap (λ (d : Option (List ℕ)). pieces_from d (map plain sts)) (data_plain now st.body) ∙ pieces_plain (data_behind now st.body) sts)
-    ∙ ap (λ (s : StmtTree). s ∷ map plain (pieces_from (data_behind now st.body) sts)) (sym (piece_plain now st.label st.body))
+    (ap (λ (d : Option (List ℕ)). pieces_from d (map plain sts)) (data_plain now st.body) ∙ pieces_plain (data_after now st.body) sts)
+    ∙ ap (λ (s : StmtTree). s ∷ map plain (pieces_from (data_after now st.body) sts)) (sym (piece_plain now st.label st.body))
 
 presets_plain : (now : Option (List ℕ)) (sts : List StmtTree) → presets_from now (map plain sts) ≡ presets_from now sts
 presets_plain now [] = refl
 presets_plain now (st ∷ sts) =
-    ap (λ (o : Option Preset). o ∷ presets_from (data_behind now (plain_body st.body)) (map plain sts)) (preset_plain now st.body)
+    ap (λ (o : Option Preset). o ∷ presets_from (data_after now (plain_body st.body)) (map plain sts)) (preset_plain now st.body)
     ∙ ap (λ (v : List (Option Preset)). preset_of now st.body ∷ v)
-    (ap (λ (d : Option (List ℕ)). presets_from d (map plain sts)) (data_plain now st.body) ∙ presets_plain (data_behind now st.body) sts)
+    (ap (λ (d : Option (List ℕ)). presets_from d (map plain sts)) (data_plain now st.body) ∙ presets_plain (data_after now st.body) sts)
 
 -- a program as it plays, with the value of CRC left out
 abbrev plain_played : Played → Played

@@ -30,9 +30,9 @@ record First : Type 0 where
   piece : Piece
   word : Token
 
-same_tokens : (text : List ℕ) (piece : Piece) (v w : Token) (behind after : List Token) → AreTokens text piece (v ∷ behind) →
+same_tokens : (text : List ℕ) (piece : Piece) (v w : Token) (beyond after : List Token) → AreTokens text piece (v ∷ beyond) →
     AreTokens text piece (w ∷ after) → v ≡ w
-same_tokens text piece v w behind after x y = let e = one_list text piece (v ∷ behind) (w ∷ after) x.good y.good in cc
+same_tokens text piece v w beyond after x y = let e = one_list text piece (v ∷ beyond) (w ∷ after) x.good y.good in cc
 
 -- the last piece, by any list of pieces
 pub last_of : {text : List ℕ} {word : Token} (pieces : List Piece) → IsCut text pieces → (b : BeginsLastPiece text word) →
@@ -43,7 +43,7 @@ last_of {text = text} pieces cut b =
 one_begin : {text : List ℕ} {v w : Token} → BeginsLastPiece text v → BeginsLastPiece text w → v ≡ w
 one_begin {text = text} {v = v} {w = w} a b =
     let same : a.piece ≡ b.piece = same_Some a.piece b.piece (sym (last_of b.pieces b.cut a) ∙ b.last) in
-    same_tokens text b.piece v w a.behind b.behind (subst (λ (p : Piece). AreTokens text p (v ∷ a.behind)) same a.tokens) b.tokens
+    same_tokens text b.piece v w a.after b.after (subst (λ (p : Piece). AreTokens text p (v ∷ a.after)) same a.tokens) b.tokens
 
 same_words : (text : List ℕ) (n m : ℕ) (v w : Token) → n ≡ m → v ≡ w →
     ◌≡◌ {A = Option CheckWords} (Some (record { stored = n; computed = check_word (take v.start text) }))
@@ -102,8 +102,8 @@ begins_with : (text : List ℕ) (pieces : List Piece) (st : StmtTree) (n : ℕ) 
     (found : IsPieceOf text pieces (length pieces - 1) st) → word_of st.body ≡ Some n → AreTokens text found.piece tokens →
     Means (symbols_of text tokens) st → (word : Token) × BeginsLastPiece text word
 begins_with text pieces st n [] cut found e are means = absurd (not_blank st n e means)
-begins_with text pieces st n (word ∷ behind) cut found e are means =
-    (word, record { pieces = pieces; cut = cut; piece = found.piece; last = found.at; behind = behind; tokens = are })
+begins_with text pieces st n (word ∷ beyond) cut found e are means =
+    (word, record { pieces = pieces; cut = cut; piece = found.piece; last = found.at; after = beyond; tokens = are })
 
 holding : (text : List ℕ) (program : List StmtTree) (is : IsProgram text program) (n : ℕ) (last : Option StmtTree) →
     slice_get program (length program - 1) ≡ last → option_map_or (λ st. word_of st.body) last None ≡ Some n → (word : Token) × BeginsLastPiece text word
@@ -140,31 +140,31 @@ the_piece : {text : List ℕ} {word : Token} (pieces : List Piece) (piece : Piec
     slice_get pieces (length pieces - 1) ≡ Some piece → b.piece ≡ piece
 the_piece pieces piece cut b e = same_Some b.piece piece (sym (last_of pieces cut b) ∙ e)
 
-some_tokens : (text : List ℕ) (piece : Piece) (word : Token) (behind : List Token) → AreTokens text piece (word ∷ behind) → AreTokens text piece [] → ⊥
-some_tokens text piece word behind x y = let e = one_list text piece (word ∷ behind) [] x.good y.good in cc
+some_tokens : (text : List ℕ) (piece : Piece) (word : Token) (beyond : List Token) → AreTokens text piece (word ∷ beyond) → AreTokens text piece [] → ⊥
+some_tokens text piece word beyond x y = let e = one_list text piece (word ∷ beyond) [] x.good y.good in cc
 
 pub has_token : {text : List ℕ} {word : Token} (pieces : List Piece) (piece : Piece) (tokens : List Token) → IsCut text pieces → BeginsLastPiece text word →
     slice_get pieces (length pieces - 1) ≡ Some piece → AreTokens text piece tokens → slice_get tokens 0 ≡ None → ⊥
 has_token {text = text} {word = word} pieces piece [] cut b e are none =
-    some_tokens text piece word b.behind (subst (λ (p : Piece). AreTokens text p (word ∷ b.behind)) (the_piece pieces piece cut b e) b.tokens) are
+    some_tokens text piece word b.after (subst (λ (p : Piece). AreTokens text p (word ∷ b.after)) (the_piece pieces piece cut b e) b.tokens) are
 has_token pieces piece (first ∷ tokens) cut b e are none = none-some first (sym none)
 
 pub has_no_reason : {text : List ℕ} {word : Token} (pieces : List Piece) (piece : Piece) (reason : Reason) → IsCut text pieces → BeginsLastPiece text word →
     slice_get pieces (length pieces - 1) ≡ Some piece → IsSmallestTokenReason text piece reason → ⊥
 has_no_reason {text = text} {word = word} pieces piece reason cut b e r =
-    let tokens = subst (λ (p : Piece). AreTokens text p (word ∷ b.behind)) (the_piece pieces piece cut b e) b.tokens in
+    let tokens = subst (λ (p : Piece). AreTokens text p (word ∷ b.after)) (the_piece pieces piece cut b e) b.tokens in
     tokens.faultless reason r.holds
 
 pub begins_last : {text : List ℕ} (pieces : List Piece) (piece : Piece) (tokens : List Token) (word : Token) → IsCut text pieces →
     slice_get pieces (length pieces - 1) ≡ Some piece → AreTokens text piece tokens → slice_get tokens 0 ≡ Some word → BeginsLastPiece text word
 begins_last pieces piece [] word cut e are f = absurd (none-some word f)
-begins_last {text = text} pieces piece (v ∷ behind) word cut e are f = record {
+begins_last {text = text} pieces piece (v ∷ beyond) word cut e are f = record {
   pieces = pieces;
   cut = cut;
   piece = piece;
   last = e;
-  behind = behind;
-  tokens = subst (λ (w : Token). AreTokens text piece (w ∷ behind)) (same_Some v word f) are;
+  after = beyond;
+  tokens = subst (λ (w : Token). AreTokens text piece (w ∷ beyond)) (same_Some v word f) are;
 }
 
 -- Statements are counted by their trees.

@@ -59,8 +59,8 @@ pub record BeginsLastPiece (text : List ℕ) (word : Token) : Type 0 where
   pub cut : IsCut text pieces
   pub piece : Piece
   pub last : slice_get pieces (length pieces - 1) ≡ Some piece
-  pub behind : List Token
-  pub tokens : AreTokens text piece (word ∷ behind)
+  pub after : List Token
+  pub tokens : AreTokens text piece (word ∷ after)
 
 -- The check word that a program holds, and the one of its text before the word CRC; or that it holds none.
 pub data HasCheckWords (text : List ℕ) (program : List StmtTree) : Option CheckWords → Type 0 where

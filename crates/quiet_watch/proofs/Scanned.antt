@@ -171,8 +171,8 @@ rest_after false p ds cs l s = walk_after (false ∷ p) ds cs (exit_state false)
 -- ---- the whole scan
 
 -- what comes after a front of a list
-behind : (n : ℕ) (xs ys : List Bool) → length xs ≡ n → drop n (xs ++ ys) ≡ ys
-behind n xs ys e = ap (λ m. drop m (xs ++ ys)) (sym e) ∙ dropped xs ys
+beyond : (n : ℕ) (xs ys : List Bool) → length xs ≡ n → drop n (xs ++ ys) ≡ ys
+beyond n xs ys e = ap (λ m. drop m (xs ++ ys)) (sym e) ∙ dropped xs ys
   where
     dropped : (xs ys : List Bool) → drop (length xs) (xs ++ ys) ≡ ys
     dropped [] ys = refl
@@ -271,9 +271,9 @@ module _ (ds : List Desc) (cs : List Card) (at : Tap) (l : Bool) (s : Option Unq
       let none : 0 + pre ≡ pre = omega arith in
       ap (λ m. take n (drop (m + pre) (drop (length (entry_tms at ir)) (tdos clocks)))) (marks_pre ir)
       ∙ ap (λ t. take n (drop (1 + pre) (drop (length (entry_tms at ir)) t))) (e ∙ answered)
-      ∙ ap (λ t. take n (drop (1 + pre) t)) (behind (length (entry_tms at ir)) front (false ∷ rest) long)
+      ∙ ap (λ t. take n (drop (1 + pre) t)) (beyond (length (entry_tms at ir)) front (false ∷ rest) long)
       ∙ ap (λ m. take n (drop m (false ∷ rest))) one
       ∙ sym (ap (λ m. take n (drop (m + pre) (drop (length (entry_tms at ir)) (tdos (clocks_of cs (inputs_of_scan at (based no_base scan))))))) (no_pre ir)
       ∙ ap (λ t. take n (drop (0 + pre) (drop (length (entry_tms at ir)) t))) alone_answers
-      ∙ ap (λ t. take n (drop (0 + pre) t)) (behind (length (entry_tms at ir)) front rest long)
+      ∙ ap (λ t. take n (drop (0 + pre) t)) (beyond (length (entry_tms at ir)) front rest long)
       ∙ ap (λ m. take n (drop m rest)) none)

@@ -88,8 +88,8 @@ pub fn lengths<D: Device>(rack: &Vec<D>, places: &[u32], descs: &[Desc], ir: boo
         Some((desc, more)) => match places.split_first() {
             None => Some(0),
             Some((first, rest)) => {
-                let behind = lengths(rack, rest, more, ir)?;
-                length_at(rack, *first as usize, desc, ir).checked_add(behind)
+                let after = lengths(rack, rest, more, ir)?;
+                length_at(rack, *first as usize, desc, ir).checked_add(after)
             }
         },
     }

@@ -31,8 +31,8 @@ module _ (at : ℕ) (part old : List Bool) (inside : at + length part ≤ length
       get_or_append_left (take at old ++ part) (drop (at + length part) old) d j (omega (arith, both_length, less))
       ∙ get_or_append_left (take at old) part d j (omega (arith, front_length, less)) ∙ get_or-take at old j d less
 
-  item_behind : (j : ℕ) (d : Bool) → at + length part ≤ j → get_or (spliced at part old) j d ≡ get_or old j d
-  item_behind j d most =
+  item_after : (j : ℕ) (d : Bool) → at + length part ≤ j → get_or (spliced at part old) j d ≡ get_or old j d
+  item_after j d most =
       let same : at + length part + (j - (at + length part)) ≡ j = omega (arith, most) in
       get_or-append_right (take at old ++ part) (drop (at + length part) old) (at + length part) j d both_length most
       ∙ get_or-drop (at + length part) old (j - (at + length part)) d ∙ ap (λ k. get_or old k d) same
@@ -80,7 +80,7 @@ spliced_at places new old part at inside few m = record { size = size; here = he
       where
         by : (j < at) ⊎ (at ≤ j) → (j < at + length part) ⊎ (at + length part ≤ j) → slice_get (spliced at part old) j ≡ slice_get old j
         by (inl before) side = kept at part old inside j (λ d. item_before at part old inside j d before)
-        by (inr from) (inr behind) = kept at part old inside j (λ d. item_behind at part old inside j d behind)
+        by (inr from) (inr after) = kept at part old inside j (λ d. item_after at part old inside j d after)
         by (inr from) (inl within) =
             let i : ℕ = j - at in
             let in_part : i < length part = omega (arith, from, within) in

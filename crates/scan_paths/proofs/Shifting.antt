@@ -99,8 +99,8 @@ front_of_spliced at len w c e h =
     ap (λ k. take k ((take at c ++ w) ++ drop (at + length w) c)) (sym n)
     ∙ take-append_seam (take at c ++ w) (drop (at + length w) c)
 
-behind_spliced : (at len n : ℕ) (w c : List Bool) → length w ≡ len → at + len ≤ length c → at + len ≤ n → drop n (spliced at w c) ≡ drop n c
-behind_spliced at len n w c e h k =
+after_spliced : (at len n : ℕ) (w c : List Bool) → length w ≡ len → at + len ≤ length c → at + len ≤ n → drop n (spliced at w c) ≡ drop n c
+after_spliced at len n w c e h k =
     let m : ℕ = n - (at + len) in
     let f : n ≡ (at + len) + m = omega (arith, k) in
     let size : length (take at c ++ w) ≡ at + len = omega (arith, length-append (take at c) w, length-take-le at c, e, h) in
@@ -127,8 +127,8 @@ pub front_of_word : (at len word : ℕ) (new c : List Bool) → new ≡ spliced 
     at + len ≤ length c → take (at + len) new ≡ take at c ++ low_bits len word
 front_of_word at len word new c e h = ap (take (at + len)) e ∙ front_of_spliced at len (low_bits len word) c (length-low_bits len word) h
 
-pub behind_word : (at len n word : ℕ) (new c : List Bool) → new ≡ spliced at (low_bits len word) c → at + len ≤ length c → at + len ≤ n → drop n new ≡ drop n c
-behind_word at len n word new c e h k = ap (drop n) e ∙ behind_spliced at len n (low_bits len word) c (length-low_bits len word) h k
+pub after_word : (at len n word : ℕ) (new c : List Bool) → new ≡ spliced at (low_bits len word) c → at + len ≤ length c → at + len ≤ n → drop n new ≡ drop n c
+after_word at len n word new c e h k = ap (drop n) e ∙ after_spliced at len n (low_bits len word) c (length-low_bits len word) h k
 
 pub length_of_word : (at len word : ℕ) (new c : List Bool) → new ≡ spliced at (low_bits len word) c → at + len ≤ length c → length new ≡ length c
 length_of_word at len word new c e h = ap length e ∙ length_of_spliced at len (low_bits len word) c (length-low_bits len word) h
@@ -151,9 +151,9 @@ some_here : (xs ys : List Bool) → 0 < length xs → is_nil (xs ++ ys) ≡ fals
 some_here [] ys h = absurd (omega arith)
 some_here (x ∷ xs) ys h = refl
 
-some_behind : (xs ys : List Bool) → is_nil ys ≡ false → is_nil (xs ++ ys) ≡ false
-some_behind [] ys h = h
-some_behind (x ∷ xs) ys h = refl
+some_after : (xs ys : List Bool) → is_nil ys ≡ false → is_nil (xs ++ ys) ≡ false
+some_after [] ys h = h
+some_after (x ∷ xs) ys h = refl
 
 inputs_of_padded : (p : Paddings) (bits : List Bool) (no_post no_base : Bool) → 0 < length bits →
     no_post ≡ is_nil (p.post ++ replicate p.base_post true) → no_base ≡ is_nil (replicate p.base_post true) →
@@ -167,7 +167,7 @@ inputs_of_padded p bits no_post no_base h a b =
     let e : padded p bits ≡ ones ++ (p.pre ++ (bits ++ back)) =
     ap (λ z. ones ++ z) (append_assoc p.pre (bits ++ p.post) last ∙ ap (λ z. p.pre ++ z) (append_assoc bits p.post last)) in
     let s1 : is_nil (bits ++ back) ≡ false = some_here bits back h in
-    let s2 : is_nil (p.pre ++ (bits ++ back)) ≡ false = some_behind p.pre (bits ++ back) s1 in
+    let s2 : is_nil (p.pre ++ (bits ++ back)) ≡ false = some_after p.pre (bits ++ back) s1 in
     let i1 : List Input = part_inputs false ones in
     let i2 : List Input = part_inputs false p.pre in
     let i5 : List Input = part_inputs true last in

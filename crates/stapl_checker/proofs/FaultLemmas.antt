@@ -13,7 +13,7 @@ use Rattle.stapl_lexer.specs.declared.reason.Reason.TheVariants as reasons
 use Rattle.stapl_syntax.specs.declared.names.Block.{Block}
 use Rattle.stapl_syntax.specs.declared.statement.Stmt.{Stmt}
 use Rattle.stapl_syntax.specs.Trees.{BodyTree, procedure, data_block, StmtTree, stmt_tree}
-use Rattle.stapl_syntax.specs.Names.{Names, Numbered, numbered, with_numbers, names_of, inside_behind, inside_after, block_of, block_of_body, declared_from, declared}
+use Rattle.stapl_syntax.specs.Names.{Names, Numbered, numbered, with_numbers, names_of, inside_next, inside_after, block_of, block_of_body, declared_from, declared}
 use Rattle.stapl_syntax.specs.Rules.{Facts, declared_in, is_action, any_body, known_from, place_after, totals_of}
 use Rattle.stapl_syntax.specs.Programs.{piece_limit}
 use Rattle.stapl_syntax.specs.Programs.{facts_at}
@@ -29,7 +29,7 @@ use Rattle.stapl_checker.specs.Judgements.{What, statement, faulty, what_tree, w
 use Rattle.stapl_checker.specs.Readings.{stmt_trees, IsFrontTo, IsToldBy}
 use Rattle.stapl_checker.specs.Walks.{facts_by, numbered_trees, broken_by, broken_at, NoneBroken, StopsAt, ComesToEnd}
 use Rattle.stapl_checker.specs.Firsts.{front_by, front_of, reason_of_course, fault_at, first_by, IsFirstFault}
-use Rattle.stapl_names.proofs.Keys.{name_same, name_itself, found_behind}
+use Rattle.stapl_names.proofs.Keys.{name_same, name_itself, found_after}
 
 -- each block that a statement begins is in the table
 
@@ -69,14 +69,14 @@ all_hold (n ∷ ns) [] now long i st at = absurd (omega (arith, long))
 all_hold (n ∷ ns) (t ∷ sts) now long zero st at =
     let same : t ≡ st = cc in
     subst (λ (z : StmtTree). Holds (declared_from block_of now (with_numbers (n ∷ ns) (t ∷ sts))) z.body) same
-    (holds_own n t.body (declared_from block_of (inside_behind now t.body) (with_numbers ns sts)))
+    (holds_own n t.body (declared_from block_of (inside_next now t.body) (with_numbers ns sts)))
 all_hold (n ∷ ns) (t ∷ sts) now long (suc i) st at =
-    holds_more (declared_from block_of (inside_behind now t.body) (with_numbers ns sts)) (block_of now n t) st.body
-    (all_hold ns sts (inside_behind now t.body) (omega (arith, long)) i st at)
+    holds_more (declared_from block_of (inside_next now t.body) (with_numbers ns sts)) (block_of now n t) st.body
+    (all_hold ns sts (inside_next now t.body) (omega (arith, long)) i st at)
 
 listed_from : (statements : List Numbered) (b : BodyTree) → Holds (declared block_of statements) b → BeginsListed (names_of statements) b
-listed_from statements (procedure name uses) h = ap is_some (found_behind bytes_eq name_same name (declared block_of statements) []) ∙ h
-listed_from statements (data_block name) h = ap is_some (found_behind bytes_eq name_same name (declared block_of statements) []) ∙ h
+listed_from statements (procedure name uses) h = ap is_some (found_after bytes_eq name_same name (declared block_of statements) []) ∙ h
+listed_from statements (data_block name) h = ap is_some (found_after bytes_eq name_same name (declared block_of statements) []) ∙ h
 listed_from statements _ h = tt
 
 pub all_listed : (names : Names) (numbers : List ℕ) (statements : List Stmt) → names ≡ names_of (with_numbers numbers (map stmt_tree statements)) →

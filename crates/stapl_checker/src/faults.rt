@@ -56,7 +56,7 @@ fn fault_at(index: u32, reason: Option<Reason>) -> Option<Fault>
 }
 
 // The fault after the statements before the first piece that is none, or at the end.
-fn fault_behind(course: Course, unread: Option<Unread>, count: u32) -> Option<Fault>
+fn fault_after(course: Course, unread: Option<Unread>, count: u32) -> Option<Fault>
     ensures { result ≡ first_by unread count course }
 {
     match unread {
@@ -77,6 +77,6 @@ pub(crate) fn first_fault(names: &Names, reading: &Reading) -> Option<Fault>
     let statements = &reading.statements[..front_of(reading)];
     match walk(names, statements) {
         Walked::Stops(index, reason) => Some(Fault { index, reason }),
-        Walked::Ends(course) => fault_behind(course, reading.unread, statements.len() as u32),
+        Walked::Ends(course) => fault_after(course, reading.unread, statements.len() as u32),
     }
 }

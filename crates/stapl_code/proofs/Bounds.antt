@@ -11,7 +11,7 @@ use Rattle.stapl_meaning.specs.Plays.{start}
 use Rattle.stapl_code.specs.declared.instr.Instr.{Instr}
 use Rattle.stapl_code.specs.declared.instr.Instr.TheVariants.{Turn}
 use Rattle.stapl_code.specs.Machine.{Constants, Step, Falls, Acts, Scanned, Stops, Faulted, Wrong, step, code_turn, code_beginning}
-use Rattle.stapl_code.specs.Ticks.{counted_scan, counted_behind, tick_of, counted_then, ticks, begin_ticks, turn_ticks, run_ticks, play_ticks}
+use Rattle.stapl_code.specs.Ticks.{counted_scan, counted_after, tick_of, counted_then, ticks, begin_ticks, turn_ticks, run_ticks, play_ticks}
 
 one_at_most : (x : Instr) → tick_of x ≤ 1
 one_at_most (Turn piece) = omega arith
@@ -25,14 +25,14 @@ scan_at_most n k scan go h = by (is_stable_state k.tap)
     by true = h (captured_on k scan) (deed_chain k (Scans scan))
     by false = omega arith
 
-behind_at_most : (n : ℕ) (k : Chain) (st : Step) (go : List Value → State → Chain → ℕ) →
-    ((ops : List Value) (s : State) (l : Chain) → go ops s l ≤ n) → counted_behind k st go ≤ n
-behind_at_most n k (Falls ops s) go h = h ops s k
-behind_at_most n k (Acts deeds ops s) go h = h ops s (deeds_chain k deeds)
-behind_at_most n k (Scanned scan ops lands) go h = scan_at_most n k scan (λ bits l. go ops (lands bits) l) (λ bits l. h ops (lands bits) l)
-behind_at_most n k (Stops ops t) go h = omega arith
-behind_at_most n k (Faulted f s) go h = omega arith
-behind_at_most n k Wrong go h = omega arith
+after_at_most : (n : ℕ) (k : Chain) (st : Step) (go : List Value → State → Chain → ℕ) →
+    ((ops : List Value) (s : State) (l : Chain) → go ops s l ≤ n) → counted_after k st go ≤ n
+after_at_most n k (Falls ops s) go h = h ops s k
+after_at_most n k (Acts deeds ops s) go h = h ops s (deeds_chain k deeds)
+after_at_most n k (Scanned scan ops lands) go h = scan_at_most n k scan (λ bits l. go ops (lands bits) l) (λ bits l. h ops (lands bits) l)
+after_at_most n k (Stops ops t) go h = omega arith
+after_at_most n k (Faulted f s) go h = omega arith
+after_at_most n k Wrong go h = omega arith
 
 then_at_most : (n : ℕ) (h : Happened) (go : ℕ → State → Chain → ℕ) → ((place : ℕ) (s : State) (k : Chain) → go place s k ≤ n) →
     counted_then h go ≤ n
@@ -47,11 +47,11 @@ module _ (entries : List ℕ) (constants : Constants) where
   ticks_at_most total [] ops s k = omega arith
   ticks_at_most total (x ∷ rest) ops s k =
       let one = one_at_most x in
-      let behind =
-      behind_at_most (length rest) k (step entries constants (total - suc (length rest)) x ops s) (ticks entries constants total rest)
+      let after =
+      after_at_most (length rest) k (step entries constants (total - suc (length rest)) x ops s) (ticks entries constants total rest)
       (λ o t l. ticks_at_most total rest o t l)
       in
-      omega (arith, one, behind)
+      omega (arith, one, after)
 
   begin_at_most : (total : ℕ) (rest : List Instr) (s : State) (k : Chain) → begin_ticks entries constants total rest s k ≤ length rest
   begin_at_most total (Turn piece ∷ rest) s k = let most = ticks_at_most total rest [] s k in omega (arith, most)

@@ -10,8 +10,8 @@ use Rattle.stapl_code.specs.declared.instr.Instr.{Instr}
 use Rattle.stapl_code.specs.declared.instr.Instr.TheVariants.{Unary, Binary}
 use Rattle.stapl_code.specs.Operators.{operator_table}
 use Rattle.stapl_code.specs.Machine.{Slot, result_of, takes, gives, wants}
-use Rattle.stapl_code.specs.Rooms.{count_behind}
-use Rattle.stapl_code.specs.Kinds.{off, then_kinds, put_on, taken_off, left_by, clears, slot_kind, is_met, all_off, all_on, kinds_moved, kinds_behind}
+use Rattle.stapl_code.specs.Rooms.{count_after}
+use Rattle.stapl_code.specs.Kinds.{off, then_kinds, put_on, taken_off, left_by, clears, slot_kind, is_met, all_off, all_on, kinds_moved, kinds_after}
 
 pub then_some : (o : Option (List ValueKind)) (go : List ValueKind → Option (List ValueKind)) (after : List ValueKind) →
     then_kinds o go ≡ Some after → (below : List ValueKind) × (o ≡ Some below) × (go below ≡ Some after)
@@ -60,9 +60,9 @@ met_and_moved false moved after e = absurd cc
 
 module _ (variables : List VarDef) where
   -- the kinds after an instruction say that its variables are what they have to be, and that it moves the kinds
-  pub met_and_behind : (x : Instr) (ks after : List ValueKind) → kinds_behind variables x ks ≡ Some after →
+  pub met_and_after : (x : Instr) (ks after : List ValueKind) → kinds_after variables x ks ≡ Some after →
       (list_all (is_met variables) (wants x) ≡ true) × (kinds_moved variables x ks ≡ Some after)
-  met_and_behind x ks after e =
+  met_and_after x ks after e =
       met_and_moved (list_all (is_met variables) (wants x)) (kinds_moved variables x ks) after e
 
   off_all_count : (wanted : List Slot) (ks after : List ValueKind) → all_off variables wanted ks ≡ Some after →
@@ -80,22 +80,22 @@ module _ (variables : List VarDef) where
       omega (arith, put_count (slot_kind variables slot) ks t.0 t.1, on_all_count given t.0 after t.2)
 
   -- after an instruction there are as many operands as the table says
-  pub count_is : (x : Instr) (ks after : List ValueKind) → kinds_behind variables x ks ≡ Some after →
-      length after ≡ count_behind x (length ks)
+  pub count_is : (x : Instr) (ks after : List ValueKind) → kinds_after variables x ks ≡ Some after →
+      length after ≡ count_after x (length ks)
   count_is x ks after e =
-      let moved = (met_and_behind x ks after e).1 in
-      let behind : List ValueKind → Option (List ValueKind) = λ ks. then_kinds (left_by (clears x) ks) (all_on variables (gives x)) in
-      let t = then_some (all_off variables (takes x) ks) behind after moved in
+      let moved = (met_and_after x ks after e).1 in
+      let beyond : List ValueKind → Option (List ValueKind) = λ ks. then_kinds (left_by (clears x) ks) (all_on variables (gives x)) in
+      let t = then_some (all_off variables (takes x) ks) beyond after moved in
       let u = then_some (left_by (clears x) t.0) (all_on variables (gives x)) after t.2 in
       let off = off_all_count (takes x) ks t.0 t.1 in
       let on = on_all_count (gives x) u.0 after u.2 in
       omega (arith, off, left_count (clears x) t.0 u.0 u.1, on)
 
   -- after an instruction there is at most one operand more
-  pub one_more : (x : Instr) (ks after : List ValueKind) → kinds_behind variables x ks ≡ Some after →
+  pub one_more : (x : Instr) (ks after : List ValueKind) → kinds_after variables x ks ≡ Some after →
       length after ≤ suc (length ks)
   one_more x ks after e =
-      let moved = (met_and_behind x ks after e).1 in
-      let behind : List ValueKind → Option (List ValueKind) = λ ks. then_kinds (left_by (clears x) ks) (all_on variables (gives x)) in
-      let t = then_some (all_off variables (takes x) ks) behind after moved in
+      let moved = (met_and_after x ks after e).1 in
+      let beyond : List ValueKind → Option (List ValueKind) = λ ks. then_kinds (left_by (clears x) ks) (all_on variables (gives x)) in
+      let t = then_some (all_off variables (takes x) ks) beyond after moved in
       omega (arith, count_is x ks after e, off_all_count (takes x) ks t.0 t.1, given_count x)

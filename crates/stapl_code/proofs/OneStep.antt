@@ -47,10 +47,10 @@ use Rattle.stapl_code.specs.declared.instr.Instr.TheVariants.{Turn, Push, PushBi
 use Rattle.stapl_code.specs.Operators.{operator_table, unary_kinds, unary_results}
 use Rattle.stapl_code.specs.Machine.{Constants, AnInteger, AnArray, OfBits, OfInts, source_slots, source_wants, dest_slots, dest_want, target_of, known_literal, known_source, Made, Puts, PutsFrom, PutsTwo, unrecorded, Does, puts, does, one, two, bit_of, operated_by, signed_by, Slot, Of, OfScalar, OfElement, slot_of, sides_of, result_of, part_slots, wait_slots, frequency_slots, given_slots, scan_slots, known_given, known_scan, takes, gives, wants, known_text, parts_text, made, lands, Step, Falls, Acts, Scanned, Stops, Faulted, Wrong, taken_onto, taken, on_taken, acted, entry_of, on_made, step}
 use Rattle.stapl_code.specs.Ranges.{IsPart, IsSource, IsInstr}
-use Rattle.stapl_code.specs.Kinds.{then_kinds, scalar_kind, variable_kind, element_kind, is_of_kind, is_met, put_on, left_by, clears, slot_kind, all_off, all_on, kinds_behind}
+use Rattle.stapl_code.specs.Kinds.{then_kinds, scalar_kind, variable_kind, element_kind, is_of_kind, is_met, put_on, left_by, clears, slot_kind, all_off, all_on, kinds_after}
 use Rattle.stapl_code.specs.Valid.{is_turn, departs, is_target, leads_well, is_stable_if, ends_stable, rests_well}
 use Rattle.stapl_code.specs.Safe.{Fits, AllFit, AllBelow}
-use Rattle.stapl_code.proofs.KindCounts.{then_some, met_and_behind}
+use Rattle.stapl_code.proofs.KindCounts.{then_some, met_and_after}
 use Rattle.stapl_code.proofs.Fitting.{FitAt, fit_at, fit_set}
 use Rattle.stapl_code.proofs.ArraySteps.{IsGot, IsAnswer, element_good, index_good, range_good, Resolves, source_good, integer_good, Writes, element_stored, integers_good, Copies, copy_good, bits_good}
 use Rattle.stapl_code.proofs.Operands.{kind_of, kinds_of, EachOf, each_of, each_more, Each, each_at, each_map, each_filled, taken_as}
@@ -358,8 +358,8 @@ module _
 
       called_good : (to : ℕ) → IsPlace to → IsPlace (suc here) → (room : Bool) →
           MadeGood [] true (Some to) (does (if room then Known (did.Jumps (with_records s (Called (suc here) ∷ s.records))) else Faults RecordsFull))
-      called_good to there behind true = (refl, there, with_placed (Called (suc here) ∷ s.records) (behind, good.records_placed))
-      called_good to there behind false = tt
+      called_good to there beyond true = (refl, there, with_placed (Called (suc here) ∷ s.records) (beyond, good.records_placed))
+      called_good to there beyond false = tt
 
       returned_good : (records : List Record) → ArePlaced IsPlace records → MadeGood [] true None (Known (Does (returned_from records s)))
       returned_good [] placed = (refl, with_placed [] tt)
@@ -616,78 +616,78 @@ module _
         row_good : (x : Instr) (mid : List ValueKind) → all_on variables (gives x) mid ≡ Some after → IsMet x →
             leads_well entry procedure x ≡ true → rests_well x ≡ true → Stands x → (is_turn (Some x) ≡ true → IsPlace here) → (departs x ≡ true → IsPlace (suc here)) →
             Each variables (takes x) (Makes x)
-        row_good (Turn piece) mid on met leads rests r at behind = (refl, at refl, good)
-        row_good (Push z) mid on met leads rests r at behind = λ below. refl
-        row_good (PushBit b) mid on met leads rests r at behind = puts_good false None (Of kinds.Bit) (bit_of b) (bit_good b r)
-        row_good (Load n) mid on met leads rests r at behind =
+        row_good (Turn piece) mid on met leads rests r at beyond = (refl, at refl, good)
+        row_good (Push z) mid on met leads rests r at beyond = λ below. refl
+        row_good (PushBit b) mid on met leads rests r at beyond = puts_good false None (Of kinds.Bit) (bit_of b) (bit_good b r)
+        row_good (Load n) mid on met leads rests r at beyond =
             let kind = is_put (variable_kind (slice_get variables n)) mid after on in
             puts_good false None (OfScalar n) (scalar_of (slice_get s.store.variables n))
             (load_good (slice_get variables n) (slice_get s.store.variables n) kind.0 (fits n) kind.1)
-        row_good (LoadAt n) mid on met leads rests r at behind = λ i.
+        row_good (LoadAt n) mid on met leads rests r at beyond = λ i.
             let kind = is_put (element_kind (slice_get variables n)) mid after on in
             puts_good false None (OfElement n) (element_of (slice_get s.store.variables n) (Int i))
             (element_good (slice_get variables n) (slice_get s.store.variables n) kind.0 i (fits n) kind.1)
-        row_good (CheckIndex n) mid on met leads rests r at behind = λ i.
+        row_good (CheckIndex n) mid on met leads rests r at beyond = λ i.
             let array = (and_parts (is_met variables (AnArray n)) true met).0 in
             puts_good false None (Of kinds.Int) (index_held (slice_get s.store.variables n) (Int i))
             (index_good (slice_get variables n) (slice_get s.store.variables n) i (fits n) array)
-        row_good (CheckRange n) mid on met leads rests r at behind = λ high low.
+        row_good (CheckRange n) mid on met leads rests r at beyond = λ high low.
             let bits = (and_parts (is_met variables (OfBits n)) true met).0 in
             kept_good high low (range_held constants.profile (slice_get s.store.variables n) (Int high) (Int low))
             (range_good (slice_get variables n) (slice_get s.store.variables n) (fits n) bits constants.profile high low)
-        row_good (Store n) mid on met leads rests r at behind =
+        row_good (Store n) mid on met leads rests r at beyond =
             each_of (variable_kind (slice_get variables n)) (Stores s good n (slice_get s.store.variables n))
             (λ v. store_good s good n (slice_get variables n) (slice_get s.store.variables n) v refl (fits n))
-        row_good (StoreAt n) mid on met leads rests r at behind = λ i.
+        row_good (StoreAt n) mid on met leads rests r at beyond = λ i.
             each_of (element_kind (slice_get variables n)) (λ v. Makes (StoreAt n) (Int i ∷ v ∷ []))
             (λ v e. wrote_good s good (element_assigned n (Int i ∷ v ∷ []) s)
             (element_stored variables s good.variables_fit n (slice_get variables n) (slice_get s.store.variables n) i v refl (fits n) e))
-        row_good (Unary op) mid on met leads rests r at behind =
+        row_good (Unary op) mid on met leads rests r at beyond =
             unary_good false None (slice_get unary_kinds op) (slice_get unary_results op) (signed_good op r)
-        row_good (Binary op) mid on met leads rests r at behind = binary_good false None (slice_get operator_table op) (combined_good op r)
-        row_good (ToInt source) mid on met leads rests r at behind =
+        row_good (Binary op) mid on met leads rests r at beyond = binary_good false None (slice_get operator_table op) (combined_good op r)
+        row_good (ToInt source) mid on met leads rests r at beyond =
             let integer : List Value → Got Value =
             λ vs. then_get (known_source constants source) (λ from. source_integer s.store.variables from vs)
             in
             each_map variables (source_slots source) (λ vs. GotOf (Some kinds.Int) (integer vs)) (Makes (ToInt source))
             (λ vs. puts_good false None (Of kinds.Int) (integer vs))
             (integer_good variables constants s.store.variables source (resolves source r met))
-        row_good (CopyBits dest source) mid on met leads rests r at behind =
+        row_good (CopyBits dest source) mid on met leads rests r at beyond =
             let both = and_parts (is_met variables (dest_want dest)) (list_all (is_met variables) (source_wants source)) met in
             each_map variables (dest_slots dest (source_slots source)) (Copies variables s good.variables_fit constants dest source)
             (Makes (CopyBits dest source))
             (λ vs. wrote_good s good (then_get (known_source constants source) (λ from. copied (target_of constants.profile dest) from vs s)))
             (copy_good variables s good.variables_fit constants dest source both.0 (resolves source r.1 both.1))
-        row_good (SetBits n literal) mid on met leads rests r at behind =
+        row_good (SetBits n literal) mid on met leads rests r at beyond =
             let bits = (and_parts (is_met variables (OfBits n)) true met).0 in
             wrote_good s good (then_get (known_literal (slice_get constants.literals literal)) (λ from. copied (IntoWhole n) from [] s))
             (bits_good variables s good.variables_fit constants n literal bits r.1)
-        row_good (SetInts n list) mid on met leads rests r at behind =
+        row_good (SetInts n list) mid on met leads rests r at beyond =
             let integers = (and_parts (is_met variables (OfInts n)) true met).0 in
             wrote_good s good (integers_set n list [] s) (integers_good variables s good.variables_fit n list integers)
-        row_good (For n body) mid on met leads rests r at behind = λ first limit step.
+        row_good (For n body) mid on met leads rests r at beyond = λ first limit step.
             looped_good s good n body first limit step (targets body leads) (and_parts (is_met variables (AnInteger n)) true met).0
-        row_good (Next n) mid on met leads rests r at behind =
+        row_good (Next n) mid on met leads rests r at beyond =
             repeated_good s good n (and_parts (is_met variables (AnInteger n)) true met).0 s.records good.records_placed
-        row_good (PushRecord kind) mid on met leads rests r at behind =
+        row_good (PushRecord kind) mid on met leads rests r at beyond =
             each_of (Some kind) (λ v. Makes (PushRecord kind) (v ∷ []))
             (λ v e. pushed_good s good v (nat_lt (length s.records) record_limit))
-        row_good (PopRecord kind) mid on met leads rests r at behind = popped_good s good kind s.records good.records_placed
-        row_good (Call p) mid on met leads rests r at behind =
-            called_good s good (entry_of entries p) (begin p r) (behind refl) (nat_lt (length s.records) record_limit)
-        row_good (Jump to) mid on met leads rests r at behind = (refl, targets to leads, good)
-        row_good (JumpIfZero to) mid on met leads rests r at behind = way_good s good to (targets to leads)
-        row_good EndProc mid on met leads rests r at behind = returned_good s good s.records good.records_placed
-        row_good (Print list) mid on met leads rests r at behind =
+        row_good (PopRecord kind) mid on met leads rests r at beyond = popped_good s good kind s.records good.records_placed
+        row_good (Call p) mid on met leads rests r at beyond =
+            called_good s good (entry_of entries p) (begin p r) (beyond refl) (nat_lt (length s.records) record_limit)
+        row_good (Jump to) mid on met leads rests r at beyond = (refl, targets to leads, good)
+        row_good (JumpIfZero to) mid on met leads rests r at beyond = way_good s good to (targets to leads)
+        row_good EndProc mid on met leads rests r at beyond = returned_good s good s.records good.records_placed
+        row_good (Print list) mid on met leads rests r at beyond =
             each_map variables (part_slots list) (PartsGood list) (Makes (Print list))
             (λ vs. printed_good s good false None (parts_text entries constants list vs)) (parts_good list r.1)
-        row_good (Export key exports.Int) mid on met leads rests r at behind = λ z.
+        row_good (Export key exports.Int) mid on met leads rests r at beyond = λ z.
             keyed_good s good (slice_get constants.texts key) (text_there key constants.texts r.0) (λ bytes. exported bytes (Int z ∷ []) s)
             (λ bytes. (λ below. refl, good, λ k stable. stable))
-        row_good (Export key exports.Bit) mid on met leads rests r at behind = λ b.
+        row_good (Export key exports.Bit) mid on met leads rests r at beyond = λ b.
             keyed_good s good (slice_get constants.texts key) (text_there key constants.texts r.0) (λ bytes. exported bytes (Bit b ∷ []) s)
             (λ bytes. (λ below. refl, good, λ k stable. stable))
-        row_good (Export key (exports.Array source)) mid on met leads rests r at behind =
+        row_good (Export key (exports.Array source)) mid on met leads rests r at beyond =
             let is = resolves source r.1 met in
             let put : Got values.Source → List Value → List ℕ → Got Did = λ g vs bytes. then_get g (λ from. bits_exported bytes from vs s) in
             each_map variables (source_slots source) (λ vs. IsAnswer (source_bits s.store.variables is.from vs))
@@ -697,32 +697,32 @@ module _
             (λ bytes.
             subst (λ g. MadeGood [] false None (does (put g vs bytes))) (sym is.known)
             (exports_good s good bytes (source_bits s.store.variables is.from vs) answer))) is.bits
-        row_good CheckChar mid on met leads rests r at behind = λ z.
+        row_good CheckChar mid on met leads rests r at beyond = λ z.
             puts_good false None (Of kinds.Int) (passed (is_index z 256) BadChar (Int z)) (passed_good (is_index z 256) z)
-        row_good Exit mid on met leads rests r at behind = λ z. refl
-        row_good (Scans scan) mid on met leads rests r at behind =
+        row_good Exit mid on met leads rests r at beyond = λ z. refl
+        row_good (Scans scan) mid on met leads rests r at beyond =
             each_filled variables (Of kinds.Int ∷ scan_slots scan) (Makes (Scans scan))
             (λ vs fill.
             scanned_good s good (then_get (known_scan constants scan) (λ parts. scanned parts vs s))
             (scan_good variables constants s good.variables_fit good.ir_stable good.dr_stable scan met r vs fill))
-        row_good (Stop register tap) mid on met leads rests r at behind = stop_good s good register tap rests
-        row_good (Pad which source) mid on met leads rests r at behind =
+        row_good (Stop register tap) mid on met leads rests r at beyond = stop_good s good register tap rests
+        row_good (Pad which source) mid on met leads rests r at beyond =
             each_filled variables (Of kinds.Int ∷ given_slots source) (Makes (Pad which source))
             (λ vs fill.
             padded_good s good which (then_get (known_given constants source) (λ from. surrounded which from vs s))
             (padding_good variables constants s good.variables_fit which source met r vs fill))
-        row_good (GoThrough states) mid on met leads rests r at behind = (λ below. refl, good, goes_stable states r rests)
-        row_good (Wait state kind last) mid on met leads rests r at behind =
+        row_good (GoThrough states) mid on met leads rests r at beyond = (λ below. refl, good, goes_stable states r rests)
+        row_good (Wait state kind last) mid on met leads rests r at beyond =
             let both = and_parts (is_stable_state state) (is_stable_state last) rests in waits_good s good kind state last both.0 both.1
-        row_good (Frequency stated) mid on met leads rests r at behind = tuned_good s good stated
+        row_good (Frequency stated) mid on met leads rests r at beyond = tuned_good s good stated
 
-        pub step_good : (x : Instr) (ops : List Value) → kinds_behind variables x (kinds_of ops) ≡ Some after →
+        pub step_good : (x : Instr) (ops : List Value) → kinds_after variables x (kinds_of ops) ≡ Some after →
             leads_well entry procedure x ≡ true → rests_well x ≡ true → Stands x → (is_turn (Some x) ≡ true → IsPlace here) →
             (departs x ≡ true → IsPlace (suc here)) → StepGood after (step entries constants here x ops s)
-        step_good x ops e leads rests r at behind_here =
-            let behind : List ValueKind → Option (List ValueKind) = λ ks. then_kinds (left_by (clears x) ks) (all_on variables (gives x)) in
-            let both = met_and_behind variables x (kinds_of ops) after e in
-            let off = then_some (all_off variables (takes x) (kinds_of ops)) behind after both.1 in
+        step_good x ops e leads rests r at after_here =
+            let beyond : List ValueKind → Option (List ValueKind) = λ ks. then_kinds (left_by (clears x) ks) (all_on variables (gives x)) in
+            let both = met_and_after variables x (kinds_of ops) after e in
+            let off = then_some (all_off variables (takes x) (kinds_of ops)) beyond after both.1 in
             let on = then_some (left_by (clears x) off.0) (all_on variables (gives x)) after off.2 in
             let t = taken_as variables (takes x) 0 [] ops off.0 off.1 in
             let count : length (takes x) ≡ length (takes x) + 0 = omega arith in
@@ -732,7 +732,7 @@ module _
             ∙ ap (λ o. on_taken o go) t.are
             ∙ ap (λ vs. go vs t.rest) (append-nil t.values)
             in
-            let makes = each_at variables (takes x) (Makes x) (row_good x on.0 on.2 both.0 leads rests r at behind_here) t.values t.fill in
+            let makes = each_at variables (takes x) (Makes x) (row_good x on.0 on.2 both.0 leads rests r at after_here) t.values t.fill in
             let left = ap (left_by (clears x)) t.left ∙ on.1 in
             subst (StepGood after) (sym is)
             (made_good s good (gives x) (clears x) (lands entries here x) t.rest on.0 after left on.2 (made entries constants here x t.values s) makes)

@@ -23,33 +23,33 @@ with_both first second (Broke events f s k) = ap (λ l. let h : Happened = Broke
 with_both first second (Lacks events) = ap (λ l. let h : Happened = Lacks l in h) (sym (append_assoc first second events))
 
 -- deeds one after another, and others after them
-pub events_behind : (k : Chain) (first second : List Deed) → deeds_events k (first ++ second) ≡ deeds_events k first ++ deeds_events (deeds_chain k first) second
-events_behind k [] second = refl
-events_behind k (d ∷ first) second =
-    ap (λ es. deed_events k d ++ es) (events_behind (deed_chain k d) first second)
+pub events_after : (k : Chain) (first second : List Deed) → deeds_events k (first ++ second) ≡ deeds_events k first ++ deeds_events (deeds_chain k first) second
+events_after k [] second = refl
+events_after k (d ∷ first) second =
+    ap (λ es. deed_events k d ++ es) (events_after (deed_chain k d) first second)
     ∙ sym (append_assoc (deed_events k d) (deeds_events (deed_chain k d) first) (deeds_events (deeds_chain (deed_chain k d) first) second))
 
-pub chain_behind : (k : Chain) (first second : List Deed) → deeds_chain k (first ++ second) ≡ deeds_chain (deeds_chain k first) second
-chain_behind k [] second = refl
-chain_behind k (d ∷ first) second = chain_behind (deed_chain k d) first second
+pub chain_after : (k : Chain) (first second : List Deed) → deeds_chain k (first ++ second) ≡ deeds_chain (deeds_chain k first) second
+chain_after k [] second = refl
+chain_after k (d ∷ first) second = chain_after (deed_chain k d) first second
 
 -- deeds in front of a turn are done before it
-pub happens_behind : (k : Chain) (deeds : List Deed) (t : Turned) → happens k (preceded deeds t) ≡ with_events (deeds_events k deeds) (happens (deeds_chain k deeds) t)
-happens_behind k deeds (Leads more place s) =
-    ap (λ l. let h : Happened = Led l place s (deeds_chain k (deeds ++ more)) in h) (events_behind k deeds more)
-    ∙ ap (λ l. let h : Happened = Led (deeds_events k deeds ++ deeds_events (deeds_chain k deeds) more) place s l in h) (chain_behind k deeds more)
-happens_behind k deeds (Over more ending s) =
-    ap (λ l. let h : Happened = Finished l ending s (deeds_chain k (deeds ++ more)) in h) (events_behind k deeds more)
-    ∙ ap (λ l. let h : Happened = Finished (deeds_events k deeds ++ deeds_events (deeds_chain k deeds) more) ending s l in h) (chain_behind k deeds more)
-happens_behind k deeds (Broken more f s) =
-    ap (λ l. let h : Happened = Broke l f s (deeds_chain k (deeds ++ more)) in h) (events_behind k deeds more)
-    ∙ ap (λ l. let h : Happened = Broke (deeds_events k deeds ++ deeds_events (deeds_chain k deeds) more) f s l in h) (chain_behind k deeds more)
-happens_behind k deeds (Scanning more scan rest) =
+pub happens_after : (k : Chain) (deeds : List Deed) (t : Turned) → happens k (preceded deeds t) ≡ with_events (deeds_events k deeds) (happens (deeds_chain k deeds) t)
+happens_after k deeds (Leads more place s) =
+    ap (λ l. let h : Happened = Led l place s (deeds_chain k (deeds ++ more)) in h) (events_after k deeds more)
+    ∙ ap (λ l. let h : Happened = Led (deeds_events k deeds ++ deeds_events (deeds_chain k deeds) more) place s l in h) (chain_after k deeds more)
+happens_after k deeds (Over more ending s) =
+    ap (λ l. let h : Happened = Finished l ending s (deeds_chain k (deeds ++ more)) in h) (events_after k deeds more)
+    ∙ ap (λ l. let h : Happened = Finished (deeds_events k deeds ++ deeds_events (deeds_chain k deeds) more) ending s l in h) (chain_after k deeds more)
+happens_after k deeds (Broken more f s) =
+    ap (λ l. let h : Happened = Broke l f s (deeds_chain k (deeds ++ more)) in h) (events_after k deeds more)
+    ∙ ap (λ l. let h : Happened = Broke (deeds_events k deeds ++ deeds_events (deeds_chain k deeds) more) f s l in h) (chain_after k deeds more)
+happens_after k deeds (Scanning more scan rest) =
     let go : List Bool → Chain → Happened = λ bits l. happens l (rest bits) in
-    ap (λ l. with_events l (scanned_on (deeds_chain k (deeds ++ more)) scan go)) (events_behind k deeds more)
-    ∙ ap (λ l. with_events (deeds_events k deeds ++ deeds_events (deeds_chain k deeds) more) (scanned_on l scan go)) (chain_behind k deeds more)
+    ap (λ l. with_events l (scanned_on (deeds_chain k (deeds ++ more)) scan go)) (events_after k deeds more)
+    ∙ ap (λ l. with_events (deeds_events k deeds ++ deeds_events (deeds_chain k deeds) more) (scanned_on l scan go)) (chain_after k deeds more)
     ∙ sym (with_both (deeds_events k deeds) (deeds_events (deeds_chain k deeds) more) (scanned_on (deeds_chain (deeds_chain k deeds) more) scan go))
-happens_behind k deeds (NoTurn more) = ap (λ l. let h : Happened = Lacks l in h) (events_behind k deeds more)
+happens_after k deeds (NoTurn more) = ap (λ l. let h : Happened = Lacks l in h) (events_after k deeds more)
 
 -- what follows a scan, seen through something that keeps the events in front
 pub scan_through : (f : Happened → Happened) → ((events : List Event) (h : Happened) → f (with_events events h) ≡ with_events events (f h)) →
@@ -102,7 +102,7 @@ begins_with entry seen (Lacks events) = refl
 
 -- what sets a play up, and then the first chosen procedure, on a chain
 pub happens_begun : (entry : ℕ → ℕ) (k : Chain) (t : Turned) → happens k (begun entry t) ≡ begins_chosen entry (happens k t)
-happens_begun entry k (Leads deeds place s) = happens_behind k deeds (next_chosen entry s s.chosen)
+happens_begun entry k (Leads deeds place s) = happens_after k deeds (next_chosen entry s s.chosen)
 happens_begun entry k (Over deeds ending s) = refl
 happens_begun entry k (Broken deeds f s) = refl
 happens_begun entry k (Scanning deeds scan rest) =

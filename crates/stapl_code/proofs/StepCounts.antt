@@ -13,7 +13,7 @@ use Rattle.stapl_code.specs.declared.instr.Instr.{Instr}
 use Rattle.stapl_code.specs.declared.instr.Instr.TheVariants.{Turn, Push, PushBit, Load, LoadAt, CheckIndex, CheckRange, Store, StoreAt, Unary, Binary, ToInt, CopyBits, SetBits, SetInts, For, Next, PushRecord, PopRecord, Call, Jump, JumpIfZero, EndProc, Print, Export, CheckChar, Exit, Scan as Scans, Stop, Pad, State as GoThrough, Wait, Frequency}
 use Rattle.stapl_code.specs.Operators.{operator_table, unary_kinds}
 use Rattle.stapl_code.specs.Machine.{Constants, Made, Puts, PutsFrom, PutsTwo, Does, puts, does, one, two, unrecorded, kept, slot_of, sides_of, result_of, takes, gives, made, taken_onto, taken, on_taken, acted, lands, on_made, step}
-use Rattle.stapl_code.specs.Rooms.{count_behind, LeavesAtMost}
+use Rattle.stapl_code.specs.Rooms.{count_after, LeavesAtMost}
 
 -- what is made puts at most n operands on
 abbrev PutsAtMost : Got Made → ℕ → Type 0
@@ -146,15 +146,15 @@ module _ (entries : List ℕ) (constants : Constants) (here : ℕ) where
   made_puts (Frequency stated) vs s e = does_none _ 0
 
   pub step_leaves : (i : Instr) (ops : List Value) (s : State) →
-      LeavesAtMost (step entries constants here i ops s) (count_behind i (length ops))
+      LeavesAtMost (step entries constants here i ops s) (count_after i (length ops))
   step_leaves i ops s = by (taken (length (takes i)) ops) refl
     where
       by : (o : Option (List Value × List Value)) → taken (length (takes i)) ops ≡ o →
-          LeavesAtMost (on_taken o (λ vs below. on_made entries (lands entries here i) below s (made entries constants here i vs s))) (count_behind i (length ops))
+          LeavesAtMost (on_taken o (λ vs below. on_made entries (lands entries here i) below s (made entries constants here i vs s))) (count_after i (length ops))
       by None e = tt
       by (Some both) e =
           let t = taken_counts (length (takes i)) [] ops both.0 both.1 e in
-          let count : length both.1 + length (gives i) ≡ count_behind i (length ops) = omega (arith, t.1) in
+          let count : length both.1 + length (gives i) ≡ count_after i (length ops) = omega (arith, t.1) in
           let puts = made_puts i both.0 s (omega (arith, t.0)) in
           subst (LeavesAtMost (on_made entries (lands entries here i) both.1 s (made entries constants here i both.0 s))) count
           (made_leaves entries (lands entries here i) both.1 s (made entries constants here i both.0 s) (length (gives i)) puts)

@@ -25,10 +25,10 @@ use Rattle.stapl_code.specs.declared.instr.Instr.{Instr}
 use Rattle.stapl_code.specs.declared.instr.Instr.TheVariants.{Turn, Push, PushBit, Store, SetBits, SetInts, EndProc}
 use Rattle.stapl_code.specs.Machine.{Does, does, puts, bit_of, known_literal, Step, Falls, Acts, Scanned, Stops, Faulted, Wrong, on_made, entry_of, step, at_end, continues, begins_chosen, stretch, begins, code_turn, code_run, code_beginning, code_play}
 use Rattle.stapl_code.specs.Ranges.{IsInstr, IsInRange}
-use Rattle.stapl_code.specs.Kinds.{kinds_behind}
+use Rattle.stapl_code.specs.Kinds.{kinds_after}
 use Rattle.stapl_code.specs.Valid.{is_turn, is_end, sets_up, departs, is_last, agree, kinds_kept, judged, first_of, is_target, leads_well, rests_well, stands_well, prologue_break, rest_break, procedure_break, next_entry, procedures_break, entry_break, IsValid}
 use Rattle.stapl_code.specs.Safe.{AllFit, AllBelow, entries_of, constants_of}
-use Rattle.stapl_code.specs.Ticks.{counted_behind, counted_then}
+use Rattle.stapl_code.specs.Ticks.{counted_after, counted_then}
 use Rattle.stapl_code.specs.Depth.{on_kinds, deepest, procedures_depth, depth_of, held, begin_held, turn_held, run_held, play_held}
 use Rattle.stapl_code.proofs.Operands.{kinds_of}
 use Rattle.stapl_code.proofs.ScanSteps.{captured_count}
@@ -88,7 +88,7 @@ is_a_turn (Turn piece) e = (piece, refl)
 is_a_turn _ e = absurd cc
 
 -- no operand is left before a Turn, and none after it
-no_kinds : (variables : List VarDef) (piece : ℕ) (ks after : List ValueKind) → kinds_behind variables (Turn piece) ks ≡ Some after →
+no_kinds : (variables : List VarDef) (piece : ℕ) (ks after : List ValueKind) → kinds_after variables (Turn piece) ks ≡ Some after →
     ◌≡◌ {A = List ValueKind} after []
 no_kinds variables piece [] after e = cc
 no_kinds variables piece (k ∷ ks) after e = absurd cc
@@ -172,20 +172,20 @@ module _ (code : CodeLists) where
   total = length code.instrs
 
   -- what is held from an instruction on is at least what is there, and what is held after it
-  pub deeper : (x : Instr) (ks after : List ValueKind) (rest : List Instr) → kinds_behind code.variables x ks ≡ Some after →
+  pub deeper : (x : Instr) (ks after : List ValueKind) (rest : List Instr) → kinds_after code.variables x ks ≡ Some after →
       (length ks ≤ deepest code.variables ks (x ∷ rest)) × (deepest code.variables after rest ≤ deepest code.variables ks (x ∷ rest))
   deeper x ks after rest e =
-      let behind : on_kinds (kinds_behind code.variables x ks) (λ after. deepest code.variables after rest) ≡ deepest code.variables after rest =
+      let beyond : on_kinds (kinds_after code.variables x ks) (λ after. deepest code.variables after rest) ≡ deepest code.variables after rest =
       ap (λ o. on_kinds o (λ after. deepest code.variables after rest)) e in
-      (omega arith, omega (arith, behind))
+      (omega arith, omega (arith, beyond))
 
   -- a turn begins at the place, in a procedure that breaks no rule
   record IsPlace (place : ℕ) : Type 0 where
     entry : ℕ
     procedure : List Instr
-    behind : List Instr
+    beyond : List Instr
     whole : procedure_break code.variables entry procedure ≡ None
-    stands : drop entry code.instrs ≡ procedure ++ behind
+    stands : drop entry code.instrs ≡ procedure ++ beyond
     from : entry ≤ place
     turn : is_turn (slice_get procedure (place - entry)) ≡ true
     deep : deepest code.variables [] procedure ≤ depth_of code
@@ -231,12 +231,12 @@ module _ (code : CodeLists) where
   abbrev SafePiece : Happened → ℕ → Type 0
   SafePiece h n = EndsPiece h × (n ≤ depth_of code)
 
-  target_place : (entry : ℕ) (procedure behind : List Instr) → procedure_break code.variables entry procedure ≡ None → drop entry code.instrs ≡ procedure ++ behind →
+  target_place : (entry : ℕ) (procedure beyond : List Instr) → procedure_break code.variables entry procedure ≡ None → drop entry code.instrs ≡ procedure ++ beyond →
       deepest code.variables [] procedure ≤ depth_of code → (to : ℕ) → is_target entry procedure to ≡ true → IsPlace to
-  target_place entry procedure behind whole stands deep to e = record {
+  target_place entry procedure beyond whole stands deep to e = record {
     entry = entry;
     procedure = procedure;
-    behind = behind;
+    beyond = beyond;
     whole = whole;
     stands = stands;
     from = (let le = and_left (nat_le entry to) _ e in grind (arith, nat_tests));
@@ -251,7 +251,7 @@ module _ (code : CodeLists) where
   reached entry procedure zero i must ks l e = (must, ks, ap (λ j. rest_break code.variables entry procedure j must ks l) (omega arith) ∙ e, omega arith)
   reached entry procedure (suc n) i must ks [] e = (must, ks, refl, omega arith)
   reached entry procedure (suc n) i must ks (x ∷ rest) e =
-      let j = judged_none (kinds_behind code.variables x ks) (stands_well entry procedure must x (is_last rest)) i
+      let j = judged_none (kinds_after code.variables x ks) (stands_well entry procedure must x (is_last rest)) i
       (λ after. rest_break code.variables entry procedure (i + 1) (departs x) after rest) e in
       let r = reached entry procedure n (i + 1) (departs x) j.0 rest j.3 in
       (r.0, r.1, ap (λ k. rest_break code.variables entry procedure k r.0 r.1 (drop n rest)) (omega arith) ∙ r.2, omega (arith, r.3, (deeper x ks j.0 rest j.1).1))
@@ -260,7 +260,7 @@ module _ (code : CodeLists) where
   begins_with_turn : (entry : ℕ) (procedure l : List Instr) → rest_break code.variables entry procedure entry true [] l ≡ None → 0 < length l → is_turn (slice_get l 0) ≡ true
   begins_with_turn entry procedure [] e h = absurd (omega arith)
   begins_with_turn entry procedure (x ∷ rest) e h =
-      let j = judged_none (kinds_behind code.variables x []) (stands_well entry procedure true x (is_last rest)) entry
+      let j = judged_none (kinds_after code.variables x []) (stands_well entry procedure true x (is_last rest)) entry
       (λ after. rest_break code.variables entry procedure (entry + 1) (departs x) after rest) e in
       turn_stands entry procedure true x (is_last rest) j.2 refl
 
@@ -313,7 +313,7 @@ module _ (code : CodeLists) where
       record {
         entry = entry;
         procedure = procedure;
-        behind = drop (end - entry) (drop entry code.instrs);
+        beyond = drop (end - entry) (drop entry code.instrs);
         whole = whole;
         stands = sym (take-append-drop (end - entry) (drop entry code.instrs));
         from = omega arith;
@@ -369,7 +369,7 @@ module _ (code : CodeLists) where
     continue_good : (end : Bool) (after : List ValueKind) (k : Chain) (st : Step) (go : List Value → State → Chain → Happened)
         (count : List Value → State → Chain → ℕ) → IsStable k → Follows after st → FallsOnly end st →
         ((ops : List Value) (t : State) (l : Chain) → end ≡ false → kinds_of ops ≡ after → Ready t → IsStable l → Safe (go ops t l) (count ops t l)) →
-        Safe (continues k st go) (counted_behind k st count)
+        Safe (continues k st go) (counted_after k st count)
     continue_good end after k (Falls ops t) go count stable g f rest = rest ops t k f g.0 g.1 stable
     continue_good end after k (Acts deeds ops t) go count stable g f rest =
         let l = deeds_chain k deeds in
@@ -386,13 +386,13 @@ module _ (code : CodeLists) where
     continue_good end after k (Faulted x t) go count stable g f rest = (tt, omega arith)
     continue_good end after k Wrong go count stable g f rest = absurd g
 
-    module _ (entry : ℕ) (procedure behind : List Instr) (whole : procedure_break code.variables entry procedure ≡ None)
-        (stands : drop entry code.instrs ≡ procedure ++ behind) (deep : deepest code.variables [] procedure ≤ depth_of code) where
+    module _ (entry : ℕ) (procedure beyond : List Instr) (whole : procedure_break code.variables entry procedure ≡ None)
+        (stands : drop entry code.instrs ≡ procedure ++ beyond) (deep : deepest code.variables [] procedure ≤ depth_of code) where
       turn_place : (j : ℕ) (x : Instr) (rest : List Instr) → drop j procedure ≡ x ∷ rest → is_turn (Some x) ≡ true → IsPlace (entry + j)
       turn_place j x rest d e = record {
         entry = entry;
         procedure = procedure;
-        behind = behind;
+        beyond = beyond;
         whole = whole;
         stands = stands;
         from = omega arith;
@@ -401,13 +401,13 @@ module _ (code : CodeLists) where
       }
 
       -- after an instruction that departs a turn begins
-      turn_behind : (j : ℕ) (x : Instr) (rest : List Instr) → drop j procedure ≡ x ∷ rest → (must : Bool) (ks after : List ValueKind) →
+      turn_after : (j : ℕ) (x : Instr) (rest : List Instr) → drop j procedure ≡ x ∷ rest → (must : Bool) (ks after : List ValueKind) →
           departs x ≡ true → stands_well entry procedure must x (is_last rest) ≡ true →
           rest_break code.variables entry procedure (entry + j + 1) (departs x) after rest ≡ None → IsPlace (suc (entry + j))
-      turn_behind j x [] d must ks after leaves well e = absurd (departs_is_no_end x leaves (end_stands entry procedure must x true well))
-      turn_behind j x (y ∷ rest) d must ks after leaves well e =
+      turn_after j x [] d must ks after leaves well e = absurd (departs_is_no_end x leaves (end_stands entry procedure must x true well))
+      turn_after j x (y ∷ rest) d must ks after leaves well e =
           let next : drop (j + 1) procedure ≡ y ∷ rest = rw add-one (drop_tail j procedure ∙ ap (drop 1) d) in
-          let judged = judged_none (kinds_behind code.variables y after) (stands_well entry procedure (departs x) y (is_last rest)) (entry + j + 1)
+          let judged = judged_none (kinds_after code.variables y after) (stands_well entry procedure (departs x) y (is_last rest)) (entry + j + 1)
           (λ a. rest_break code.variables entry procedure (entry + j + 1 + 1) (departs y) a rest) e in
           let turn = turn_stands entry procedure (departs x) y (is_last rest) judged.2 leaves in
           let one : entry + (j + 1) ≡ suc (entry + j) = omega arith in
@@ -415,27 +415,27 @@ module _ (code : CodeLists) where
 
       -- the rest of a turn
       rest_good : (rest : List Instr) (j : ℕ) (must : Bool) (ops : List Value) (s : State) (k : Chain) → Ready s → IsStable k → drop j procedure ≡ rest →
-          drop (entry + j) code.instrs ≡ rest ++ behind → 0 < length rest → rest_break code.variables entry procedure (entry + j) must (kinds_of ops) rest ≡ None →
+          drop (entry + j) code.instrs ≡ rest ++ beyond → 0 < length rest → rest_break code.variables entry procedure (entry + j) must (kinds_of ops) rest ≡ None →
           deepest code.variables (kinds_of ops) rest ≤ depth_of code →
-          Safe (stretch (entries_of code.procedures) (constants_of code) total (rest ++ behind) ops s k) (held (entries_of code.procedures) (constants_of code) total (rest ++ behind) ops s k)
+          Safe (stretch (entries_of code.procedures) (constants_of code) total (rest ++ beyond) ops s k) (held (entries_of code.procedures) (constants_of code) total (rest ++ beyond) ops s k)
       rest_good [] j must ops s k good stable d at some e below = absurd (omega arith)
       rest_good (x ∷ rest) j must ops s chain good stable d at some e below =
-          let k = judged_none (kinds_behind code.variables x (kinds_of ops)) (stands_well entry procedure must x (is_last rest)) (entry + j)
+          let k = judged_none (kinds_after code.variables x (kinds_of ops)) (stands_well entry procedure must x (is_last rest)) (entry + j)
           (λ after. rest_break code.variables entry procedure (entry + j + 1) (departs x) after rest) e in
-          let here : total - suc (length (rest ++ behind)) ≡ entry + j = omega (arith, ap length at, length-drop (entry + j) code.instrs) in
+          let here : total - suc (length (rest ++ beyond)) ≡ entry + j = omega (arith, ap length at, length-drop (entry + j) code.instrs) in
           let more : drop (j + 1) procedure ≡ rest = rw add-one (drop_tail j procedure ∙ ap (drop 1) d) in
           let one : entry + (j + 1) ≡ suc (entry + j) = omega arith in
           let again : entry + (j + 1) ≡ entry + j + 1 = omega arith in
-          let next : drop (entry + (j + 1)) code.instrs ≡ rest ++ behind = ap (λ (n : ℕ). drop n code.instrs) one ∙ drop_tail (entry + j) code.instrs ∙ ap (drop 1) at in
-          let r = all_dropped (IsInstr code.variables (length code.literals) (length code.texts) (length code.procedures)) (entry + j) code.instrs x (rest ++ behind) range.instrs at in
+          let next : drop (entry + (j + 1)) code.instrs ≡ rest ++ beyond = ap (λ (n : ℕ). drop n code.instrs) one ∙ drop_tail (entry + j) code.instrs ∙ ap (drop 1) at in
+          let r = all_dropped (IsInstr code.variables (length code.literals) (length code.texts) (length code.procedures)) (entry + j) code.instrs x (rest ++ beyond) range.instrs at in
           let sg = step_good code.variables (length code.procedures) (entries_of code.procedures) (constants_of code) IsPlace
-          (total - suc (length (rest ++ behind))) begin entry procedure (target_place entry procedure behind whole stands deep) s good k.0 x ops k.1
+          (total - suc (length (rest ++ beyond))) begin entry procedure (target_place entry procedure beyond whole stands deep) s good k.0 x ops k.1
           (target_stands entry procedure must x (is_last rest) k.2) (rest_stands entry procedure must x (is_last rest) k.2) r
-          (λ t. subst IsPlace (sym here) (turn_place j x rest d t)) (λ t. subst IsPlace (ap suc (sym here)) (turn_behind j x rest d must (kinds_of ops) k.0 t k.2 k.3)) in
+          (λ t. subst IsPlace (sym here) (turn_place j x rest d t)) (λ t. subst IsPlace (ap suc (sym here)) (turn_after j x rest d must (kinds_of ops) k.0 t k.2 k.3)) in
           let under = deeper x (kinds_of ops) k.0 rest k.1 in
-          let c = continue_good (is_end x) k.0 chain (step (entries_of code.procedures) (constants_of code) (total - suc (length (rest ++ behind))) x ops s)
-          (stretch (entries_of code.procedures) (constants_of code) total (rest ++ behind))
-          (held (entries_of code.procedures) (constants_of code) total (rest ++ behind)) stable sg (falls_inside _ x ops s) (λ o t l end kinds g stays.
+          let c = continue_good (is_end x) k.0 chain (step (entries_of code.procedures) (constants_of code) (total - suc (length (rest ++ beyond))) x ops s)
+          (stretch (entries_of code.procedures) (constants_of code) total (rest ++ beyond))
+          (held (entries_of code.procedures) (constants_of code) total (rest ++ beyond)) stable sg (falls_inside _ x ops s) (λ o t l end kinds g stays.
           rest_good rest (j + 1) (departs x) o t l g stays more next (more_follow rest (not_last (is_end x) (is_last rest) (end_stands entry procedure must x (is_last rest) k.2) end))
           (ap (λ n. rest_break code.variables entry procedure n (departs x) (kinds_of o) rest) again ∙ ap
           (λ ks. rest_break code.variables entry procedure (entry + j + 1) (departs x) ks rest) kinds ∙ k.3)
@@ -454,18 +454,18 @@ module _ (code : CodeLists) where
           at_most : (l : List Instr) → drop j procedure ≡ l → 0 < length l → j ≤ length procedure
           at_most l d h = omega (arith, ap length d, length-drop j procedure)
 
-          by_turn : (piece : ℕ) (rest : List Instr) → drop j procedure ≡ Turn piece ∷ rest → drop (entry + j) code.instrs ≡ Turn piece ∷ rest ++ behind →
-              SafePiece (begins (entries_of code.procedures) (constants_of code) total (Turn piece ∷ rest ++ behind) s k)
-              (begin_held (entries_of code.procedures) (constants_of code) total (Turn piece ∷ rest ++ behind) s k)
+          by_turn : (piece : ℕ) (rest : List Instr) → drop j procedure ≡ Turn piece ∷ rest → drop (entry + j) code.instrs ≡ Turn piece ∷ rest ++ beyond →
+              SafePiece (begins (entries_of code.procedures) (constants_of code) total (Turn piece ∷ rest ++ beyond) s k)
+              (begin_held (entries_of code.procedures) (constants_of code) total (Turn piece ∷ rest ++ beyond) s k)
           by_turn piece rest d at =
               let r = reached entry procedure j entry true [] procedure whole in
-              let own = judged_none (kinds_behind code.variables (Turn piece) r.1) (stands_well entry procedure r.0 (Turn piece) (is_last rest)) (entry + j)
+              let own = judged_none (kinds_after code.variables (Turn piece) r.1) (stands_well entry procedure r.0 (Turn piece) (is_last rest)) (entry + j)
               (λ after. rest_break code.variables entry procedure (entry + j + 1) (departs (Turn piece)) after rest)
               (ap (rest_break code.variables entry procedure (entry + j) r.0 r.1) (sym d) ∙ r.2) in
               let more : drop (j + 1) procedure ≡ rest = rw add-one (drop_tail j procedure ∙ ap (drop 1) d) in
               let one : entry + (j + 1) ≡ suc (entry + j) = omega arith in
               let again : entry + (j + 1) ≡ entry + j + 1 = omega arith in
-              let next : drop (entry + (j + 1)) code.instrs ≡ rest ++ behind = ap (λ (n : ℕ). drop n code.instrs) one ∙ drop_tail (entry + j) code.instrs ∙ ap (drop 1) at in
+              let next : drop (entry + (j + 1)) code.instrs ≡ rest ++ beyond = ap (λ (n : ℕ). drop n code.instrs) one ∙ drop_tail (entry + j) code.instrs ∙ ap (drop 1) at in
               let none = no_kinds code.variables piece r.1 own.0 own.1 in
               let there : deepest code.variables r.1 (Turn piece ∷ rest) ≤ depth_of code = subst (λ l. deepest code.variables r.1 l ≤ depth_of code) d (omega (arith, r.3, deep)) in
               let below : deepest code.variables own.0 rest ≤ depth_of code = omega (arith, (deeper (Turn piece) r.1 own.0 rest own.1).1, there) in
@@ -473,7 +473,7 @@ module _ (code : CodeLists) where
               (more_follow rest (not_last false (is_last rest) (end_stands entry procedure r.0 (Turn piece) (is_last rest) own.2) refl))
               (ap (λ n. rest_break code.variables entry procedure n false [] rest) again ∙ ap (λ ks. rest_break code.variables entry procedure (entry + j + 1) false ks rest) (sym none) ∙ own.3)
               (subst (λ ks. deepest code.variables ks rest ≤ depth_of code) none below) in
-              (piece_good piece (stretch (entries_of code.procedures) (constants_of code) total (rest ++ behind) [] s k) r.0, r.1)
+              (piece_good piece (stretch (entries_of code.procedures) (constants_of code) total (rest ++ beyond) [] s k) r.0, r.1)
 
           from : (l : List Instr) → drop j procedure ≡ l → SafePiece (begins (entries_of code.procedures) (constants_of code) total (drop (entry + j) code.instrs) s k)
               (begin_held (entries_of code.procedures) (constants_of code) total (drop (entry + j) code.instrs) s k)
@@ -481,8 +481,8 @@ module _ (code : CodeLists) where
           from (x ∷ rest) d =
               let t = is_a_turn x (some (x ∷ rest) d) in
               let is : drop j procedure ≡ Turn t.0 ∷ rest = d ∙ ap (λ y. y ∷ rest) t.1 in
-              let at : drop (entry + j) code.instrs ≡ Turn t.0 ∷ rest ++ behind =
-              sym (drop-drop j entry code.instrs) ∙ ap (drop j) stands ∙ drop-append-le j procedure behind (at_most (x ∷ rest) d (omega arith)) ∙ ap (λ l. l ++ behind) is in
+              let at : drop (entry + j) code.instrs ≡ Turn t.0 ∷ rest ++ beyond =
+              sym (drop-drop j entry code.instrs) ∙ ap (drop j) stands ∙ drop-append-le j procedure beyond (at_most (x ∷ rest) d (omega arith)) ∙ ap (λ l. l ++ beyond) is in
               subst (λ l. SafePiece (begins (entries_of code.procedures) (constants_of code) total l s k)
               (begin_held (entries_of code.procedures) (constants_of code) total l s k)) (sym at) (by_turn t.0 rest is at)
 
@@ -492,7 +492,7 @@ module _ (code : CodeLists) where
         let same : at.entry + (place - at.entry) ≡ place = omega (arith, at.from) in
         subst (λ n. SafePiece (code_turn (entries_of code.procedures) (constants_of code) code.instrs n s k)
         (turn_held (entries_of code.procedures) (constants_of code) code.instrs n s k)) same
-        (turn_from at.entry at.procedure at.behind at.whole at.stands at.deep (place - at.entry) s k good stable at.turn)
+        (turn_from at.entry at.procedure at.beyond at.whole at.stands at.deep (place - at.entry) s k good stable at.turn)
 
     place_turn : (place : ℕ) → IsPlace place → is_turn (head_of (drop place code.instrs)) ≡ true
     place_turn place at = from (drop j at.procedure) refl
@@ -508,8 +508,8 @@ module _ (code : CodeLists) where
         from (x ∷ rest) d =
             let within : j ≤ length at.procedure = omega (arith, ap length d, length-drop j at.procedure) in
             let same : place ≡ at.entry + j = omega (arith, at.from) in
-            let is : drop place code.instrs ≡ x ∷ rest ++ at.behind = ap (λ (n : ℕ). drop n code.instrs) same ∙ sym (drop-drop j at.entry code.instrs) ∙ ap
-            (drop j) at.stands ∙ drop-append-le j at.procedure at.behind within ∙ ap (λ l. l ++ at.behind) d in
+            let is : drop place code.instrs ≡ x ∷ rest ++ at.beyond = ap (λ (n : ℕ). drop n code.instrs) same ∙ sym (drop-drop j at.entry code.instrs) ∙ ap
+            (drop j) at.stands ∙ drop-append-le j at.procedure at.beyond within ∙ ap (λ l. l ++ at.beyond) d in
             ap (λ l. is_turn (head_of l)) is ∙ some (x ∷ rest) d
 
     -- the prologue falls into the first Turn
@@ -531,7 +531,7 @@ module _ (code : CodeLists) where
     continue_begins : (after : List ValueKind) (k : Chain) (st : Step) (go : List Value → State → Chain → Happened)
         (count : List Value → State → Chain → ℕ) → IsStable k → Follows after st → NeverStops st →
         ((ops : List Value) (t : State) (l : Chain) → kinds_of ops ≡ after → Ready t → IsStable l → BeginsSafe (go ops t l) (count ops t l)) →
-        BeginsSafe (continues k st go) (counted_behind k st count)
+        BeginsSafe (continues k st go) (counted_after k st count)
     continue_begins after k (Falls ops t) go count stable g f rest = rest ops t k g.0 g.1 stable
     continue_begins after k (Acts deeds ops t) go count stable g f rest =
         let l = deeds_chain k deeds in
@@ -599,32 +599,32 @@ module _ (code : CodeLists) where
     no_operands [] e = refl
     no_operands (v ∷ ops) e = absurd cc
 
-    prologue_good : (prologue behind : List Instr) (i : ℕ) (ops : List Value) (s : State) (k : Chain) → is_turn (head_of behind) ≡ true → Ready s → IsStable k →
-        drop i code.instrs ≡ prologue ++ behind → (prologue ≡ [] → ops ≡ []) → prologue_break code.variables i (kinds_of ops) prologue ≡ None →
+    prologue_good : (prologue beyond : List Instr) (i : ℕ) (ops : List Value) (s : State) (k : Chain) → is_turn (head_of beyond) ≡ true → Ready s → IsStable k →
+        drop i code.instrs ≡ prologue ++ beyond → (prologue ≡ [] → ops ≡ []) → prologue_break code.variables i (kinds_of ops) prologue ≡ None →
         deepest code.variables (kinds_of ops) prologue ≤ depth_of code →
-        BeginsSafe (stretch (entries_of code.procedures) (constants_of code) total (prologue ++ behind) ops s k)
-        (held (entries_of code.procedures) (constants_of code) total (prologue ++ behind) ops s k)
+        BeginsSafe (stretch (entries_of code.procedures) (constants_of code) total (prologue ++ beyond) ops s k)
+        (held (entries_of code.procedures) (constants_of code) total (prologue ++ beyond) ops s k)
     prologue_good [] [] i ops s k turn good stable at none e below = absurd cc
-    prologue_good [] (y ∷ behind) i ops s k turn good stable at none e below =
+    prologue_good [] (y ∷ beyond) i ops s k turn good stable at none e below =
         let t = is_a_turn y turn in
-        subst (λ o. BeginsSafe (stretch (entries_of code.procedures) (constants_of code) total (y ∷ behind) o s k)
-        (held (entries_of code.procedures) (constants_of code) total (y ∷ behind) o s k)) (sym (none refl))
-        (subst (λ z. BeginsSafe (stretch (entries_of code.procedures) (constants_of code) total (z ∷ behind) [] s k)
-        (held (entries_of code.procedures) (constants_of code) total (z ∷ behind) [] s k)) (sym t.1) ((good, stable), omega arith))
-    prologue_good (x ∷ rest) behind i ops s chain turn good stable at none e below =
-        let k = judged_none (kinds_kept (is_last rest) (kinds_behind code.variables x (kinds_of ops))) (sets_up x) i (λ after. prologue_break code.variables (i + 1) after rest) e in
-        let kept = none_kept rest (kinds_behind code.variables x (kinds_of ops)) k.0 k.1 in
-        let next : drop (i + 1) code.instrs ≡ rest ++ behind = rw add-one (drop_tail i code.instrs ∙ ap (drop 1) at) in
-        let r = all_dropped (IsInstr code.variables (length code.literals) (length code.texts) (length code.procedures)) i code.instrs x (rest ++ behind) range.instrs at in
-        let here = total - suc (length (rest ++ behind)) in
+        subst (λ o. BeginsSafe (stretch (entries_of code.procedures) (constants_of code) total (y ∷ beyond) o s k)
+        (held (entries_of code.procedures) (constants_of code) total (y ∷ beyond) o s k)) (sym (none refl))
+        (subst (λ z. BeginsSafe (stretch (entries_of code.procedures) (constants_of code) total (z ∷ beyond) [] s k)
+        (held (entries_of code.procedures) (constants_of code) total (z ∷ beyond) [] s k)) (sym t.1) ((good, stable), omega arith))
+    prologue_good (x ∷ rest) beyond i ops s chain turn good stable at none e below =
+        let k = judged_none (kinds_kept (is_last rest) (kinds_after code.variables x (kinds_of ops))) (sets_up x) i (λ after. prologue_break code.variables (i + 1) after rest) e in
+        let kept = none_kept rest (kinds_after code.variables x (kinds_of ops)) k.0 k.1 in
+        let next : drop (i + 1) code.instrs ≡ rest ++ beyond = rw add-one (drop_tail i code.instrs ∙ ap (drop 1) at) in
+        let r = all_dropped (IsInstr code.variables (length code.literals) (length code.texts) (length code.procedures)) i code.instrs x (rest ++ beyond) range.instrs at in
+        let here = total - suc (length (rest ++ beyond)) in
         let sg = step_good code.variables (length code.procedures) (entries_of code.procedures)
         (constants_of code) IsPlace here begin 0 [] no_target s good k.0 x ops kept.0 (leads_nowhere x k.2) (rests_nowhere x k.2) r (λ t. absurd (no_turn x k.2 t))
         (λ t. absurd (no_departure x k.2 t)) in
         let under = deeper x (kinds_of ops) k.0 rest kept.0 in
         let c = continue_begins k.0 chain (step (entries_of code.procedures) (constants_of code) here x ops s)
-        (stretch (entries_of code.procedures) (constants_of code) total (rest ++ behind))
-        (held (entries_of code.procedures) (constants_of code) total (rest ++ behind)) stable sg (never_stops x here ops s k.2) (λ o t l kinds g stays.
-        prologue_good rest behind (i + 1) o t l turn g stays next (λ f. no_operands o (kinds ∙ kept.1 f)) (ap (λ ks. prologue_break code.variables (i + 1) ks rest) kinds ∙ k.3)
+        (stretch (entries_of code.procedures) (constants_of code) total (rest ++ beyond))
+        (held (entries_of code.procedures) (constants_of code) total (rest ++ beyond)) stable sg (never_stops x here ops s k.2) (λ o t l kinds g stays.
+        prologue_good rest beyond (i + 1) o t l turn g stays next (λ f. no_operands o (kinds ∙ kept.1 f)) (ap (λ ks. prologue_break code.variables (i + 1) ks rest) kinds ∙ k.3)
         (subst (λ ks. deepest code.variables ks rest ≤ depth_of code) (sym kinds) (omega (arith, under.1, below)))) in
         let few : length ops ≤ depth_of code = omega (arith, under.0, below, kinds_count ops) in
         (c.0, omega (arith, c.1, few))

@@ -12,8 +12,8 @@ use Rattle.stapl_code.specs.declared.raw.CodeLists.{CodeLists}
 use Rattle.stapl_code.specs.declared.instr.Instr.{Instr}
 use Rattle.stapl_code.specs.declared.instr.Instr.TheVariants.{Turn}
 use Rattle.stapl_code.specs.Machine.{Constants, step, code_turn, code_beginning}
-use Rattle.stapl_code.specs.Ticks.{counted_behind, counted_then}
-use Rattle.stapl_code.specs.Kinds.{kinds_behind}
+use Rattle.stapl_code.specs.Ticks.{counted_after, counted_then}
+use Rattle.stapl_code.specs.Kinds.{kinds_after}
 use Rattle.stapl_code.specs.Valid.{next_entry}
 
 -- goes on with the kinds, where the operands are found
@@ -24,7 +24,7 @@ on_kinds (Some ks) go = go ks
 -- the most operands before and after these instructions, where the first one finds operands of these kinds
 abbrev pub deepest : List VarDef → List ValueKind → List Instr → ℕ
 deepest variables ks [] = length ks
-deepest variables ks (x ∷ rest) = max (length ks) (on_kinds (kinds_behind variables x ks) (λ after. deepest variables after rest))
+deepest variables ks (x ∷ rest) = max (length ks) (on_kinds (kinds_after variables x ks) (λ after. deepest variables after rest))
 
 -- the same of the procedures
 abbrev pub procedures_depth : List VarDef → List Instr → List ProcDef → ℕ
@@ -43,7 +43,7 @@ module _ (entries : List ℕ) (constants : Constants) where
   abbrev pub held : ℕ → List Instr → List Value → State → Chain → ℕ
   held total [] ops s k = length ops
   held total (i ∷ rest) ops s k =
-      max (length ops) (counted_behind k (step entries constants (total - suc (length rest)) i ops s) (held total rest))
+      max (length ops) (counted_after k (step entries constants (total - suc (length rest)) i ops s) (held total rest))
 
   abbrev pub begin_held : ℕ → List Instr → State → Chain → ℕ
   begin_held total (Turn piece ∷ rest) s k = held total rest [] s k

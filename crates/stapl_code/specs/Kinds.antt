@@ -99,5 +99,5 @@ module _ (variables : List VarDef) where
   abbrev pub kinds_moved : Instr → List ValueKind → Option (List ValueKind)
   kinds_moved x ks = then_kinds (all_off (takes x) ks) (λ below. then_kinds (left_by (clears x) below) (all_on (gives x)))
 
-  abbrev pub kinds_behind : Instr → List ValueKind → Option (List ValueKind)
-  kinds_behind x ks = if list_all is_met (wants x) then kinds_moved x ks else None
+  abbrev pub kinds_after : Instr → List ValueKind → Option (List ValueKind)
+  kinds_after x ks = if list_all is_met (wants x) then kinds_moved x ks else None

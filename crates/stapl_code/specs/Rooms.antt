@@ -10,13 +10,13 @@ use Rattle.stapl_code.specs.Valid.{IsValid}
 use Rattle.stapl_code.specs.Depth.{depth_of}
 
 -- how many operands are left after an instruction that found n of them
-abbrev pub count_behind : Instr → ℕ → ℕ
-count_behind x n = (n - length (takes x)) + length (gives x)
+abbrev pub count_after : Instr → ℕ → ℕ
+count_after x n = (n - length (takes x)) + length (gives x)
 
 -- these instructions, where the first finds n operands, never hold more than the room
 abbrev pub HoldWithin : ℕ → ℕ → List Instr → Type 0
 HoldWithin room n [] = n ≤ room
-HoldWithin room n (x ∷ rest) = (n ≤ room) × HoldWithin room (count_behind x n) rest
+HoldWithin room n (x ∷ rest) = (n ≤ room) × HoldWithin room (count_after x n) rest
 
 -- the same from each place of a code on, where no operand is there at first
 abbrev pub AllHoldWithin : ℕ → List Instr → Type 0
@@ -37,4 +37,4 @@ CodesHoldTheirDepth = (code : CodeLists) → IsInRange code → IsValid code →
 abbrev pub StepsLeaveTheirCount : Type 0
 StepsLeaveTheirCount =
     (entries : List ℕ) (constants : Constants) (here : ℕ) (i : Instr) (ops : List Value) (s : State) →
-    LeavesAtMost (step entries constants here i ops s) (count_behind i (length ops))
+    LeavesAtMost (step entries constants here i ops s) (count_after i (length ops))

@@ -16,13 +16,13 @@ abbrev pub counted_scan : Chain → BoardScan → (List Bool → Chain → ℕ) 
 counted_scan k scan go = if is_stable_state k.tap then go (captured_on k scan) (deed_chain k (Scans scan)) else 0
 
 -- a count after a step on a chain; the end of a turn has none
-abbrev pub counted_behind : Chain → Step → (List Value → State → Chain → ℕ) → ℕ
-counted_behind k (Falls ops s) go = go ops s k
-counted_behind k (Acts deeds ops s) go = go ops s (deeds_chain k deeds)
-counted_behind k (Scanned scan ops lands) go = counted_scan k scan (λ bits l. go ops (lands bits) l)
-counted_behind k (Stops ops t) go = 0
-counted_behind k (Faulted f s) go = 0
-counted_behind k Wrong go = 0
+abbrev pub counted_after : Chain → Step → (List Value → State → Chain → ℕ) → ℕ
+counted_after k (Falls ops s) go = go ops s k
+counted_after k (Acts deeds ops s) go = go ops s (deeds_chain k deeds)
+counted_after k (Scanned scan ops lands) go = counted_scan k scan (λ bits l. go ops (lands bits) l)
+counted_after k (Stops ops t) go = 0
+counted_after k (Faulted f s) go = 0
+counted_after k Wrong go = 0
 
 abbrev pub tick_of : Instr → ℕ
 tick_of (Turn piece) = 0
@@ -40,7 +40,7 @@ module _ (entries : List ℕ) (constants : Constants) where
   abbrev pub ticks : ℕ → List Instr → List Value → State → Chain → ℕ
   ticks total [] ops s k = 0
   ticks total (i ∷ rest) ops s k =
-      tick_of i + counted_behind k (step entries constants (total - suc (length rest)) i ops s) (ticks total rest)
+      tick_of i + counted_after k (step entries constants (total - suc (length rest)) i ops s) (ticks total rest)
 
   abbrev pub begin_ticks : ℕ → List Instr → State → Chain → ℕ
   begin_ticks total (Turn piece ∷ rest) s k = 1 + ticks total rest [] s k

@@ -6,9 +6,9 @@
 --   The prologue holds only Push, PushBit, Store, SetBits and SetInts (sets_up), and leaves no operand (kinds_kept).
 --   A procedure begins with a Turn (procedure_break), and ends with an EndProc, which stands nowhere else
 --   (stands_well).
---   An instruction finds operands of its kinds, and variables of the kind that it wants (kinds_behind).
+--   An instruction finds operands of its kinds, and variables of the kind that it wants (kinds_after).
 --   No operand is left before a Turn, and after a For, a Next, a Call, a Jump, a JumpIfZero, an Exit and an EndProc
---   (kinds_behind).
+--   (kinds_after).
 --   A target, that of a For too, is a Turn of the same procedure (is_target).
 --   After a For, a Next, a Call, a Jump and an Exit stands a Turn (departs).
 --   The last state of a State, both of a Wait, and that of a Stop are stable (rests_well).
@@ -24,7 +24,7 @@ use Rattle.stapl_code.specs.declared.raw.CodeLists.{CodeLists}
 use Rattle.stapl_code.specs.declared.instr.Instr.{Instr}
 use Rattle.stapl_code.specs.declared.instr.Instr.TheVariants.{Turn, Push, PushBit, Store, SetBits, SetInts, For, Next, Call, Jump, EndProc, Exit, Stop, State as GoThrough, Wait}
 use Rattle.stapl_code.specs.Machine.{goes_to}
-use Rattle.stapl_code.specs.Kinds.{then_kinds, left_by, kinds_behind}
+use Rattle.stapl_code.specs.Kinds.{then_kinds, left_by, kinds_after}
 
 abbrev pub is_turn : Option Instr → Bool
 is_turn (Some (Turn piece)) = true
@@ -116,13 +116,13 @@ module _ (variables : List VarDef) where
   abbrev pub prologue_break : ℕ → List ValueKind → List Instr → Option ℕ
   prologue_break i ks [] = None
   prologue_break i ks (x ∷ rest) =
-      judged (kinds_kept (is_last rest) (kinds_behind variables x ks)) (sets_up x) i (λ after. prologue_break (i + 1) after rest)
+      judged (kinds_kept (is_last rest) (kinds_after variables x ks)) (sets_up x) i (λ after. prologue_break (i + 1) after rest)
 
   -- the first break of a procedure in its instructions from number i on
   abbrev pub rest_break : ℕ → List Instr → ℕ → Bool → List ValueKind → List Instr → Option ℕ
   rest_break entry procedure i must_turn ks [] = None
   rest_break entry procedure i must_turn ks (x ∷ rest) =
-      judged (kinds_behind variables x ks) (stands_well entry procedure must_turn x (is_last rest)) i
+      judged (kinds_after variables x ks) (stands_well entry procedure must_turn x (is_last rest)) i
       (λ after. rest_break entry procedure (i + 1) (departs x) after rest)
 
   -- the first break of a procedure, which begins with a Turn

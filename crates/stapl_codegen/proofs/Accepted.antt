@@ -11,7 +11,7 @@ use Rattle.stapl_syntax.specs.Programs.{IsProgram}
 use Rattle.stapl_shapes.specs.Sizes.{body_size, statements_size}
 use Rattle.stapl_syntax.specs.Contents.{IsWellNamed, IsShortPart, PrintsShortStrings, AreLiteralBits, HoldsLiteral, HoldsBoth, HoldsLiterals}
 use Rattle.stapl_meaning.specs.Turns.{rows}
-use Rattle.stapl_meaning.specs.Scopes.{data_behind, plays, idle, pieces_from, has_initial_value, Preset, preset_of, presets_from, Played, as_played}
+use Rattle.stapl_meaning.specs.Scopes.{data_after, plays, idle, pieces_from, has_initial_value, Preset, preset_of, presets_from, Played, as_played}
 use Rattle.stapl_meaning.specs.Typed.{IsTypedPreset, IsTyped}
 use Rattle.stapl_meaning.proofs.Blocks.{preset_in}
 use Rattle.stapl_code.specs.Ranges.{IsLiteral}
@@ -110,8 +110,8 @@ module _ (P : BodyTree → Type 0) where
   pieces_all : P end_data → (now : Option (List ℕ)) (rest : List StmtTree) → All Holds rest → All Holds (pieces_from now rest)
   pieces_all none now [] each = All-nil Holds
   pieces_all none now (st ∷ rest) each =
-      All-cons Holds (if plays now st.body then st else idle) (pieces_from (data_behind now st.body) rest) (by (plays now st.body))
-      (pieces_all none (data_behind now st.body) rest (All-tail Holds st rest each))
+      All-cons Holds (if plays now st.body then st else idle) (pieces_from (data_after now st.body) rest) (by (plays now st.body))
+      (pieces_all none (data_after now st.body) rest (All-tail Holds st rest each))
     where
       by : (b : Bool) → Holds (if b then st else idle)
       by true = All-head Holds st rest each
@@ -123,8 +123,8 @@ module _ (P : BodyTree → Type 0) where
   presets_all : (now : Option (List ℕ)) (rest : List StmtTree) → All Holds rest → All HoldsOf (presets_from now rest)
   presets_all now [] each = All-nil HoldsOf
   presets_all now (st ∷ rest) each =
-      All-cons HoldsOf (preset_of now st.body) (presets_from (data_behind now st.body) rest) (by (preset_of now st.body) refl)
-      (presets_all (data_behind now st.body) rest (All-tail Holds st rest each))
+      All-cons HoldsOf (preset_of now st.body) (presets_from (data_after now st.body) rest) (by (preset_of now st.body) refl)
+      (presets_all (data_after now st.body) rest (All-tail Holds st rest each))
     where
       by : (o : Option Preset) → preset_of now st.body ≡ o → HoldsOf o
       by None e = tt
@@ -194,14 +194,14 @@ some_size _ = omega arith
 pub pieces_size : (now : Option (List ℕ)) (rest : List StmtTree) → statements_size (pieces_from now rest) ≤ statements_size rest
 pieces_size now [] = omega arith
 pieces_size now (st ∷ rest) =
-    let more = pieces_size (data_behind now st.body) rest in
+    let more = pieces_size (data_after now st.body) rest in
     let own = by (plays now st.body) in
     omega (
       arith,
       more,
       own,
       sum_by-cons (λ (st : StmtTree). body_size st.body) st rest,
-      sum_by-cons (λ (st : StmtTree). body_size st.body) (if plays now st.body then st else idle) (pieces_from (data_behind now st.body) rest),
+      sum_by-cons (λ (st : StmtTree). body_size st.body) (if plays now st.body then st else idle) (pieces_from (data_after now st.body) rest),
     )
   where
     by : (b : Bool) → body_size (if b then st else idle).body ≤ body_size st.body
@@ -211,14 +211,14 @@ pieces_size now (st ∷ rest) =
 pub presets_size : (now : Option (List ℕ)) (rest : List StmtTree) → sum_by preset_size (presets_from now rest) ≤ statements_size rest
 presets_size now [] = omega arith
 presets_size now (st ∷ rest) =
-    let more = presets_size (data_behind now st.body) rest in
+    let more = presets_size (data_after now st.body) rest in
     let own = by (preset_of now st.body) refl in
     omega (
       arith,
       more,
       own,
       sum_by-cons (λ (st : StmtTree). body_size st.body) st rest,
-      sum_by-cons preset_size (preset_of now st.body) (presets_from (data_behind now st.body) rest),
+      sum_by-cons preset_size (preset_of now st.body) (presets_from (data_after now st.body) rest),
     )
   where
     by : (o : Option Preset) → preset_of now st.body ≡ o → preset_size o ≤ body_size st.body

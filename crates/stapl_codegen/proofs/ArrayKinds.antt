@@ -248,6 +248,6 @@ module _ (variables : List VarDef) (look : Lookup) where
         AllTyped variables look ks (array_operands look source ++ (target_operands look target ++ compare_operands look compare))
     scan_typed ks source target compare count is =
         let on : List ValueKind = kinds_onto (array_operands look source) ks in
-        let behind : List ValueKind = kinds_onto (target_operands look target) on in
+        let after : List ValueKind = kinds_onto (target_operands look target) on in
         typed_both ks (array_operands look source) (target_operands look target ++ compare_operands look compare) (array_typed variables look agrees ks source is.source_is)
-        (typed_both on (target_operands look target) (compare_operands look compare) (target_typed on target is.target_is) (compare_typed behind compare is.compare_is))
+        (typed_both on (target_operands look target) (compare_operands look compare) (target_typed on target is.target_is) (compare_typed after compare is.compare_is))

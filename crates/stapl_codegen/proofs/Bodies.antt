@@ -25,8 +25,8 @@ use Rattle.stapl_meaning.specs.Turns.{kind_of_wait, integer_given, operands, eff
 use Rattle.stapl_code.specs.declared.instr.Instr.{Instr}
 use Rattle.stapl_code.specs.declared.instr.Instr.TheVariants.{Store, StoreAt, PopRecord, EndProc}
 use Rattle.stapl_code.specs.Machine.{Constants, Step, Does, does, two, unrecorded, export_slots, known_literal, known_source, known_text, part_exported, wait_slots, frequency_slots, takes, lands, made, on_taken, taken, on_made, continues, stretch, entry_of}
-use Rattle.stapl_code.proofs.Preceded.{with_nothing, happens_behind, scan_alike}
-use Rattle.stapl_codegen.specs.Emit.{program_constants, Firsts, last, between, source_code, export_part, row_texts, row_literals, behind_row, rows_items, body_texts, body_literals, row_code}
+use Rattle.stapl_code.proofs.Preceded.{with_nothing, happens_after, scan_alike}
+use Rattle.stapl_codegen.specs.Emit.{program_constants, Firsts, last, between, source_code, export_part, row_texts, row_literals, after_row, rows_items, body_texts, body_literals, row_code}
 use Rattle.stapl_codegen.specs.Emit.{rows_code, body_code}
 use Rattle.stapl_codegen.specs.Correct.{falls, placed_record, placed_state}
 use Rattle.stapl_codegen.proofs.Constants.{HasConstants, row_has, others_have, item_known, source_known, source_count}
@@ -46,7 +46,7 @@ with_placed place Stuck s chain k = refl
 -- deeds in front of a turn, on a chain
 deeds_placed : (place : ℕ → ℕ) (chain : Chain) (ds : List Deed) (t : Turned) →
     with_events (deeds_events chain ds) (happens (deeds_chain chain ds) (placed place t)) ≡ happens chain (placed place (preceded ds t))
-deeds_placed place chain ds t = sym (happens_behind chain ds (placed place t)) ∙ ap (happens chain) (preceded_placed place ds t)
+deeds_placed place chain ds t = sym (happens_after chain ds (placed place t)) ∙ ap (happens chain) (preceded_placed place ds t)
 
 -- no operator makes nothing
 nothing_made : (vs : List Value) → two vs (λ x y. Stuck) ≡ Stuck
@@ -170,7 +170,7 @@ module _ (place : ℕ → ℕ) (entries : List ℕ) (texts : List (List ℕ)) (l
   -- the next turn follows after a statement
   pub record Behind (rest : List Instr) : Type 0 where
     pub falls_on : (t : State) (k : Chain) → stretch entries constants total rest [] t k ≡ Led [] (place scope.follow) t k
-    pub is_behind : IsBehind rest
+    pub is_after : IsBehind rest
 
   -- procedures begin where the code says
   abbrev EntriesAre : Type 0
@@ -242,18 +242,18 @@ module _ (place : ℕ → ℕ) (entries : List ℕ) (texts : List (List ℕ)) (l
         ((here : ℕ) (vs : List Value) (s : State) → (is_call b ≡ true → suc here ≡ place scope.follow) →
         made entries constants here (last scope place first b) vs (placed_state place s) ≡ does (placed_got place (effect scope b vs s))) → Tied first b
     simply alone count leads same = record {
-      follows = λ rest vs s k go e behind more.
+      follows = λ rest vs s k go e after more.
           let here : ℕ = total - suc (length rest) in
           ap (λ l. stretch entries constants total l (onto vs []) (placed_state place s) k) (alone (last scope place first b ∷ rest))
           ∙ instr_follows (last scope place first b) rest vs s k (effect scope b vs s) (target scope b) go
-          (record { count = count ∙ one_each scope.look s (operands scope b) vs e; same = same here vs s behind; leads = leads here }) entry_is more;
+          (record { count = count ∙ one_each scope.look s (operands scope b) vs e; same = same here vs s after; leads = leads here }) entry_is more;
     }
 
     -- the same of a statement whose instruction does what it does, with the place of the code after it
     plainly : IsAlone → TakesAll → LeadsThere →
         ((here : ℕ) (vs : List Value) (s : State) → made entries constants here (last scope place first b) vs s ≡ does (effect (placed_scope place scope) b vs s)) → Tied first b
     plainly alone count leads same =
-        simply alone count leads (λ here vs s behind. same here vs (placed_state place s) ∙ ap does (effect_placed place scope b vs s))
+        simply alone count leads (λ here vs s after. same here vs (placed_state place s) ∙ ap does (effect_placed place scope b vs s))
 
   -- ---- POP: the topmost record goes on the operands, and from there into the variable
 
@@ -343,8 +343,8 @@ module _ (place : ℕ → ℕ) (entries : List ℕ) (texts : List (List ℕ)) (l
       (source_known texts literals scope.look first.literal a has.literals))
   row_tied first (call name) entry_is has =
       simply first (call name) entry_is (λ l. refl) refl (λ here. ap Some (entry_is (scope.procedure name)))
-      (λ here vs s behind.
-      ap (λ n. does (called n vs (placed_state place s))) (behind refl) ∙ ap does (effect_placed place scope (call name) vs s))
+      (λ here vs s after.
+      ap (λ n. does (called n vs (placed_state place s))) (after refl) ∙ ap does (effect_placed place scope (call name) vs s))
   row_tied first (goto name) entry_is has = plainly first (goto name) entry_is (λ l. refl) refl (λ here. refl) (λ here vs s. refl)
   row_tied first (if_then e body) entry_is has = plainly first (if_then e body) entry_is (λ l. refl) refl (λ here. refl) (λ here vs s. refl)
   row_tied first (for_loop name from to step) entry_is has =
@@ -352,13 +352,13 @@ module _ (place : ℕ → ℕ) (entries : List ℕ) (texts : List (List ℕ)) (l
   row_tied first (next name) entry_is has = plainly first (next name) entry_is (λ l. refl) refl (λ here. refl) (λ here vs s. refl)
   row_tied first (push e) entry_is has = plainly first (push e) entry_is (λ l. refl) refl (λ here. refl) (λ here vs s. refl)
   row_tied first (pop (scalar name)) entry_is has = record {
-    follows = λ rest vs s k go e behind more.
+    follows = λ rest vs s k go e after more.
         pop_follows (given_kind (scope.look.kind name)) (Store (scope.look.variable name)) (assigned (scope.look.variable name))
         (record { same = λ here ws t. refl; leads = λ here. refl; is_placed = assigned_placed place (scope.look.variable name) }) entry_is rest vs s k go
         (ap suc (one_each scope.look s [] vs e)) (scalar_never (scope.look.variable name) vs s) more;
   }
   row_tied first (pop (element name index)) entry_is has = record {
-    follows = λ rest vs s k go e behind more.
+    follows = λ rest vs s k go e after more.
         pop_follows (given_kind (scope.look.kind name)) (StoreAt (scope.look.variable name)) (element_assigned (scope.look.variable name))
         (record { same = λ here ws t. refl; leads = λ here. refl; is_placed = element_placed place (scope.look.variable name) }) entry_is rest vs s k go
         (ap suc (one_each scope.look s (operands scope (pop (element name index))) vs e))
@@ -400,32 +400,32 @@ module _ (place : ℕ → ℕ) (entries : List ℕ) (texts : List (List ℕ)) (l
   pub row_follows : (s : State) (k : Chain) (first : Firsts) (b : BodyTree) (rest : List Instr) (go : State → Turned) → Tied first b →
       (is_call b ≡ true → IsBehind rest) → GoesAlike rest go →
       stretch entries constants total (row_code scope place first b rest) [] (placed_state place s) k ≡ happens k (placed place (carried scope b s go))
-  row_follows s k first b rest go tied behind more =
+  row_follows s k first b rest go tied after more =
       let values : Got (List Value) = values_of scope.look s.store.variables (operands scope b) in
       let did : List Value → Turned = λ vs. with_got (effect scope b vs s) s (λ did. led scope.entry (target scope b) did go) in
       operands_follow entries texts literals total (placed_state place s) k scope.look (operands scope b) (between scope b (last scope place first b ∷ rest)) []
-      ∙ with_known values (placed_state place s) k _ (λ vs. happens k (placed place (did vs))) (λ vs e. tied.follows rest vs s k go e behind more)
+      ∙ with_known values (placed_state place s) k _ (λ vs. happens k (placed place (did vs))) (λ vs e. tied.follows rest vs s k go e after more)
       ∙ with_placed place values s k did
 
   -- the place after a CALL is that after its statement
-  call_behind : (first : Firsts) (b : BodyTree) (bs : List BodyTree) (rest : List Instr) → CallsLast (b ∷ bs) → IsBehind rest → is_call b ≡ true →
+  call_after : (first : Firsts) (b : BodyTree) (bs : List BodyTree) (rest : List Instr) → CallsLast (b ∷ bs) → IsBehind rest → is_call b ≡ true →
       IsBehind (rows_code scope place first bs rest)
-  call_behind first b [] rest last behind is = behind
-  call_behind first b (c ∷ bs) rest last behind is = absurd (true≢false (sym is ∙ last.0))
+  call_after first b [] rest last after is = after
+  call_after first b (c ∷ bs) rest last after is = absurd (true≢false (sym is ∙ last.0))
 
-  rows_behind : (b : BodyTree) (bs : List BodyTree) → CallsLast (b ∷ bs) → CallsLast bs
-  rows_behind b [] last = tt
-  rows_behind b (c ∷ bs) last = last.1
+  rows_after : (b : BodyTree) (bs : List BodyTree) → CallsLast (b ∷ bs) → CallsLast bs
+  rows_after b [] last = tt
+  rows_after b (c ∷ bs) last = last.1
 
   rows_follow : (s : State) (k : Chain) (first : Firsts) (bs : List BodyTree) (rest : List Instr) → EntriesAre → HasConstants constants first (rows_items row_texts bs) (rows_items row_literals bs) →
       CallsLast bs → Behind rest → stretch entries constants total (rows_code scope place first bs rest) [] (placed_state place s) k ≡ happens k (placed place (rows_done scope bs s))
-  rows_follow s k first [] rest entry_is has last behind = behind.falls_on (placed_state place s) k
-  rows_follow s k first (b ∷ bs) rest entry_is has last behind =
+  rows_follow s k first [] rest entry_is has last after = after.falls_on (placed_state place s) k
+  rows_follow s k first (b ∷ bs) rest entry_is has last after =
       let own = row_has constants first (row_texts b) (rows_items row_texts bs) (row_literals b) (rows_items row_literals bs) has in
       let others = others_have constants first (row_texts b) (rows_items row_texts bs) (row_literals b) (rows_items row_literals bs) has in
-      row_follows s k first b (rows_code scope place (behind_row first b) bs rest) (rows_done scope bs) (row_tied first b entry_is own)
-      (call_behind (behind_row first b) b bs rest last behind.is_behind)
-      (λ t l. rows_follow t l (behind_row first b) bs rest entry_is others (rows_behind b bs last) behind)
+      row_follows s k first b (rows_code scope place (after_row first b) bs rest) (rows_done scope bs) (row_tied first b entry_is own)
+      (call_after (after_row first b) b bs rest last after.is_after)
+      (λ t l. rows_follow t l (after_row first b) bs rest entry_is others (rows_after b bs last) after)
 
   -- ENDPROC alone may be the last statement of the code: it never goes on to what stands after it
   ends : (b : BodyTree) → falls b ≡ false → b ≡ end_procedure
@@ -453,8 +453,8 @@ module _ (place : ℕ → ℕ) (entries : List ℕ) (texts : List (List ℕ)) (l
   pub body_follows : (s : State) (k : Chain) (first : Firsts) (b : BodyTree) (rest : List Instr) → EntriesAre → (falls b ≡ true → Behind rest) →
       HasConstants constants first (body_texts b) (body_literals b) →
       Follows s k first b rest
-  body_follows s k first b rest entry_is behind has = by (falls b) refl
+  body_follows s k first b rest entry_is after has = by (falls b) refl
     where
       by : (t : Bool) → falls b ≡ t → Follows s k first b rest
-      by true e = rows_follow s k first (rows b) rest entry_is has (calls_last b) (behind e)
+      by true e = rows_follow s k first (rows b) rest entry_is has (calls_last b) (after e)
       by false e = subst (λ c. Follows s k first c rest) (sym (ends b e)) (end_follows s k rest entry_is)

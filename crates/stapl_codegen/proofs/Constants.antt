@@ -27,8 +27,8 @@ module _ {A : Type 0} (all : List A) where
   pub has_front : (n : ℕ) (xs ys : List A) → HasItems all n (xs ++ ys) → HasItems all n xs
   has_front n xs ys has = record { more = ys ++ has.more; from = has.from ∙ append_assoc xs ys has.more }
 
-  pub has_behind : (n : ℕ) (xs ys : List A) → HasItems all n (xs ++ ys) → HasItems all (past n xs) ys
-  has_behind n xs ys has =
+  pub has_after : (n : ℕ) (xs ys : List A) → HasItems all n (xs ++ ys) → HasItems all (past n xs) ys
+  has_after n xs ys has =
       record { more = has.more; from = drop_more n xs (ys ++ has.more) (has.from ∙ append_assoc xs ys has.more) }
 
 -- of the constants of a row and of others, those of the row, and those of the others
@@ -42,8 +42,8 @@ module _ (constants : Constants) (first : Firsts) (row_texts texts : List (List 
 
   pub others_have : HasConstants constants (record { text = past first.text row_texts; literal = past first.literal row_literals }) texts literals
   others_have = record {
-    texts = has_behind constants.texts first.text row_texts texts has.texts;
-    literals = has_behind constants.literals first.literal row_literals literals has.literals;
+    texts = has_after constants.texts first.text row_texts texts has.texts;
+    literals = has_after constants.literals first.literal row_literals literals has.literals;
   }
 
 -- the constant of a number, if it is there

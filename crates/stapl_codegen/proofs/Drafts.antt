@@ -6,7 +6,7 @@ use Rattle.std.proofs.lemmas.Bool.{cases_lt, true≢false}
 use Rattle.std.proofs.Math.Seq.{get_or-append_seam}
 use Rattle.stapl_syntax.specs.Trees.{BodyTree, boolean, boolean_array, integer, integer_array, call, StmtTree}
 use Rattle.stapl_syntax.specs.Statements.{is_outer}
-use Rattle.stapl_syntax.specs.Names.{numbered_from, numbered, inside_behind, inside_from, inside_after}
+use Rattle.stapl_syntax.specs.Names.{numbered_from, numbered, inside_next, inside_from, inside_after}
 use Rattle.stapl_meaning.specs.Turns.{rows}
 use Rattle.stapl_meaning.specs.Scopes.{has_initial_value, Preset, Played, block_at, entry_from, procedure_number, scope_at}
 use Rattle.stapl_meaning.specs.Typed.{NamesProcedures, IsTyped}
@@ -16,7 +16,7 @@ use Rattle.stapl_code.specs.declared.instr.Instr.TheVariants.{Turn}
 use Rattle.stapl_code.specs.Machine.{nowhere}
 use Rattle.stapl_codegen.specs.Emit.{Firsts, past, body_code, row_texts, row_literals, rows_items, preset_items, statements_items, first_items, pieces_items, texts_before, literals_before, body_texts, body_literals, firsts_at, preset_firsts, preset_code, presets_code, piece_code, pieces_code, code_to, start_in, start_of, total_of}
 use Rattle.stapl_codegen.specs.Numbers.{numbers_from}
-use Rattle.stapl_codegen.specs.Drafts.{number_in, Site, Draft, site_at, site_behind, preset_site, scope_of_site, piece_code_in, initial_code_in, preset_code_in, ArePresetsWritten, AreDrafted, StartsTo, IsDraft}
+use Rattle.stapl_codegen.specs.Drafts.{number_in, Site, Draft, site_at, site_after, preset_site, scope_of_site, piece_code_in, initial_code_in, preset_code_in, ArePresetsWritten, AreDrafted, StartsTo, IsDraft}
 use Rattle.stapl_codegen.specs.Accepted.{IsAccepted}
 use Rattle.stapl_codegen.specs.Correct.{Starts}
 use Rattle.stapl_code.proofs.Heads.{head_of, get_head}
@@ -35,37 +35,37 @@ take_more {A = A} i xs x rest e = let next : i + 1 ≡ suc i = omega arith in ap
     by_place (suc i) (y ∷ ys) e = ap (λ l. y ∷ l) (by_place i ys e)
 
 inside_append : (now : Option (List ℕ)) (n : ℕ) (xs : List StmtTree) (st : StmtTree) →
-    inside_from now (numbered_from n (map Some (xs ++ st ∷ []))) ≡ inside_behind (inside_from now (numbered_from n (map Some xs))) st.body
+    inside_from now (numbered_from n (map Some (xs ++ st ∷ []))) ≡ inside_next (inside_from now (numbered_from n (map Some xs))) st.body
 inside_append now n [] st = refl
-inside_append now n (x ∷ xs) st = inside_append (inside_behind now x.body) (n + 1) xs st
+inside_append now n (x ∷ xs) st = inside_append (inside_next now x.body) (n + 1) xs st
 
-items_behind : {A : Type 0} (of : BodyTree → List A) (xs : List StmtTree) (st : StmtTree) → statements_items of (xs ++ st ∷ []) ≡ statements_items of xs ++ rows_items of (rows st.body)
-items_behind of [] st = append-nil (rows_items of (rows st.body))
-items_behind of (x ∷ xs) st =
-    ap (λ l. rows_items of (rows x.body) ++ l) (items_behind of xs st)
+items_after : {A : Type 0} (of : BodyTree → List A) (xs : List StmtTree) (st : StmtTree) → statements_items of (xs ++ st ∷ []) ≡ statements_items of xs ++ rows_items of (rows st.body)
+items_after of [] st = append-nil (rows_items of (rows st.body))
+items_after of (x ∷ xs) st =
+    ap (λ l. rows_items of (rows x.body) ++ l) (items_after of xs st)
     ∙ sym (append_assoc (rows_items of (rows x.body)) (statements_items of xs) (rows_items of (rows st.body)))
 
 -- the statement at a place
 module _ (program : Played) (i : ℕ) (st : StmtTree) (is : drop i program.pieces ≡ st ∷ drop (i + 1) program.pieces) where
-  pub inside_more : (inside inside' : Option (List ℕ)) → inside ≡ block_at program.pieces i → inside' ≡ inside_behind inside st.body → inside' ≡ block_at program.pieces (i + 1)
+  pub inside_more : (inside inside' : Option (List ℕ)) → inside ≡ block_at program.pieces i → inside' ≡ inside_next inside st.body → inside' ≡ block_at program.pieces (i + 1)
   inside_more inside inside' so_far after =
       after
-      ∙ ap (λ o. inside_behind o st.body) (so_far ∙ ap (λ l. inside_after (numbered l)) (take-map Some i program.pieces))
+      ∙ ap (λ o. inside_next o st.body) (so_far ∙ ap (λ l. inside_after (numbered l)) (take-map Some i program.pieces))
       ∙ sym (inside_append None 1 (take i program.pieces) st)
       ∙ sym (ap (λ l. inside_after (numbered (map Some l))) (take_more i program.pieces st (drop (i + 1) program.pieces) is))
       ∙ sym (ap (λ l. inside_after (numbered l)) (take-map Some (i + 1) program.pieces))
 
-  site_more : (site site' : Site) → site ≡ site_at program i → site' ≡ site_behind site st.body → site' ≡ site_at program (i + 1)
+  site_more : (site site' : Site) → site ≡ site_at program i → site' ≡ site_after site st.body → site' ≡ site_at program (i + 1)
   site_more site site' so_far after =
       after
-      ∙ ap (λ (s : Site). site_behind s st.body) so_far
+      ∙ ap (λ (s : Site). site_after s st.body) so_far
       ∙ ap (λ (o : Option (List ℕ)). record (site_at program (i + 1)) { inside = o }) (inside_more _ _ refl refl)
 
   texts_more : (texts texts' : List (List ℕ)) → texts ≡ texts_before program i → texts' ≡ texts ++ body_texts st.body → texts' ≡ texts_before program (i + 1)
   texts_more texts texts' so_far after =
       after
       ∙ ap (λ t. t ++ body_texts st.body) so_far
-      ∙ sym (items_behind row_texts (take i program.pieces) st)
+      ∙ sym (items_after row_texts (take i program.pieces) st)
       ∙ sym (ap (statements_items row_texts) (take_more i program.pieces st (drop (i + 1) program.pieces) is))
 
   literals_after : (o : Option Preset) → drop i program.presets ≡ o ∷ drop (i + 1) program.presets → (literals literals' : List (List Bool)) → literals ≡ literals_before program i →
@@ -135,7 +135,7 @@ module _ (program : Played) (i : ℕ) (d : Draft) (starts : List ℕ) (so_far : 
   pub piece_more : IsTyped program → (st : StmtTree) (is : drop i program.pieces ≡ st ∷ drop (i + 1) program.pieces) (o : Option Preset)
       (at_preset : drop i program.presets ≡ o ∷ drop (i + 1) program.presets)
       (d' : Draft) (start : ℕ) (starts' : List ℕ) → d'.code ≡ d.code ++ piece_code_in d st → d'.texts ≡ d.texts ++ body_texts st.body →
-      d'.literals ≡ d.literals ++ (body_literals st.body ++ preset_items row_literals o) → d'.site ≡ site_behind d.site st.body →
+      d'.literals ≡ d.literals ++ (body_literals st.body ++ preset_items row_literals o) → d'.site ≡ site_after d.site st.body →
       start ≡ (if is_outer st.body then nowhere else length d.code) → starts' ≡ starts ++ start ∷ [] → AreDrafted program (i + 1) d' starts'
   piece_more typed st is o at_preset d' start starts' code texts literals site at more = record {
     code = code_more program i st is d.code d'.code _ so_far.code (code ∙ ap (λ l. d.code ++ l) (code_is program i st is typed d so_far.texts so_far.literals so_far.site));
@@ -180,8 +180,8 @@ pub past_length : {A : Type 0} (n : ℕ) (xs : List A) → past n xs ≡ n + len
 past_length n [] = omega arith
 past_length n (x ∷ xs) = let more = past_length (suc n) xs in omega (arith, more)
 
-pub behind_items : {A : Type 0} (xs ys zs : List A) → zs ≡ xs ++ ys → past (length xs) ys ≡ length zs
-behind_items xs ys zs e = omega (arith, past_length (length xs) ys, ap length e, length-append xs ys)
+pub after_items : {A : Type 0} (xs ys zs : List A) → zs ≡ xs ++ ys → past (length xs) ys ≡ length zs
+after_items xs ys zs e = omega (arith, past_length (length xs) ys, ap length e, length-append xs ys)
 
 -- the code of an initial value where it stands
 preset_same : (program : Played) (site : Site) (i : ℕ) (literal : ℕ) (o : Option Preset) → Starts o → site ≡ site_at program 0 → literal ≡ (preset_firsts program i).literal →
@@ -227,12 +227,12 @@ module _ (program : Played) (i : ℕ) (o : Option Preset) (st : StmtTree) (prese
       )
 
 -- a statement more, which has an initial value or none
-pub preset_more : (program : Played) (i : ℕ) (d d' : Draft) (before own number more behind : ℕ) (o : Option Preset) (st : StmtTree) → drop i program.presets ≡ o ∷ drop (i + 1) program.presets →
+pub preset_more : (program : Played) (i : ℕ) (d d' : Draft) (before own number more beyond : ℕ) (o : Option Preset) (st : StmtTree) → drop i program.presets ≡ o ∷ drop (i + 1) program.presets →
     drop i program.pieces ≡ st ∷ drop (i + 1) program.pieces → Starts o → ArePresetsWritten program i d before → own ≡ length (body_literals st.body) →
-    more ≡ length (preset_items row_literals o) → number ≡ before + own → behind ≡ number + more → d'.code ≡ d.code ++ preset_code_in d number o → d'.texts ≡ d.texts →
+    more ≡ length (preset_items row_literals o) → number ≡ before + own → beyond ≡ number + more → d'.code ≡ d.code ++ preset_code_in d number o → d'.texts ≡ d.texts →
     d'.literals ≡ d.literals → d'.site ≡ d.site →
-    ArePresetsWritten program (i + 1) d' behind
-preset_more program i d d' before own number more behind o st presets pieces starts so_far is next first last code texts literals site =
+    ArePresetsWritten program (i + 1) d' beyond
+preset_more program i d d' before own number more beyond o st presets pieces starts so_far is next first last code texts literals site =
     let here : List Instr = preset_code program (λ j. j) i o [] in
     let others : List Instr = presets_code program (λ j. j) (i + 1) (drop (i + 1) program.presets) [] in
     record {

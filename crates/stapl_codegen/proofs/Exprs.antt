@@ -12,7 +12,7 @@ use Rattle.stapl_meaning.specs.declared.values.Value.{Value}
 use Rattle.stapl_meaning.specs.declared.values.Held.{Held}
 use Rattle.stapl_meaning.specs.Values.{Got, Known, Faults, Stuck, then_get, combined, signed, absolute, scalar_of, element_of, index_held, bits_held, range_held, of_programs, Span, span_of}
 use Rattle.stapl_meaning.specs.Values.{Whole, Range, OfInt, source_integer, literal, unary_side, Lookup, sides, source_of, value_of, source_values}
-use Rattle.stapl_meaning.specs.Operands.{Test, Plain, Character, Operand, character_of, tested, operand_value, values_behind, values_of}
+use Rattle.stapl_meaning.specs.Operands.{Test, Plain, Character, Operand, character_of, tested, operand_value, values_after, values_of}
 use Rattle.stapl_meaning.specs.Operands as tests
 use Rattle.stapl_meaning.specs.Deeds.{Chain}
 use Rattle.stapl_meaning.specs.States.{State, Happened, Broke, Lacks}
@@ -216,11 +216,11 @@ module _ (entries : List ℕ) (texts : List (List ℕ)) (literals : List (List B
 
     pub operands_follow : (os : List Operand) (rest : List Instr) (ops : List Value) →
         stretch entries constants total (operands_code look os rest) ops s chain
-        ≡ got_on (values_behind look s.store.variables (head_of ops) os) s chain (λ vs. stretch entries constants total rest (onto vs ops) s chain)
+        ≡ got_on (values_after look s.store.variables (head_of ops) os) s chain (λ vs. stretch entries constants total rest (onto vs ops) s chain)
     operands_follow [] rest ops = refl
     operands_follow (o ∷ os) rest ops =
         let one : Got Value = operand_value look s.store.variables (head_of ops) o in
-        let more : Value → Got (List Value) = λ v. values_behind look s.store.variables (Some v) os in
+        let more : Value → Got (List Value) = λ v. values_after look s.store.variables (Some v) os in
         let k : List Value → Happened = λ vs. stretch entries constants total rest (onto vs ops) s chain in
         operand_follows o (operands_code look os rest) ops
         ∙ with_same one s chain _ (λ v. got_on (then_get (more v) (λ vs. Known (v ∷ vs))) s chain k) (λ v.
@@ -241,10 +241,10 @@ first_more (Known v) more n vs each e = one_more v (more v) n vs (each v) e
 first_more (Faults f) more n vs each e = absurd cc
 first_more Stuck more n vs each e = absurd cc
 
-each_one : (look : Lookup) (s : State) (before : Option Value) (os : List Operand) (vs : List Value) → values_behind look s.store.variables before os ≡ Known vs → length os ≡ length vs
+each_one : (look : Lookup) (s : State) (before : Option Value) (os : List Operand) (vs : List Value) → values_after look s.store.variables before os ≡ Known vs → length os ≡ length vs
 each_one look s before [] vs e = let same : [] ≡ vs = cc in ap length same
 each_one look s before (o ∷ os) vs e =
-    first_more (operand_value look s.store.variables before o) (λ v. values_behind look s.store.variables (Some v) os) (length os) vs (λ v. each_one look s (Some v) os) e
+    first_more (operand_value look s.store.variables before o) (λ v. values_after look s.store.variables (Some v) os) (length os) vs (λ v. each_one look s (Some v) os) e
 
 pub one_each : (look : Lookup) (s : State) (os : List Operand) (vs : List Value) → values_of look s.store.variables os ≡ Known vs → length os ≡ length vs
 one_each look s os vs e = each_one look s None os vs e

@@ -8,11 +8,11 @@ use Rattle.std.proofs.lemmas.List.Elements.{All-head, All-tail}
 use Rattle.std.proofs.lemmas.List.Sums.{sum_by-cons, sum_by-append}
 use Rattle.tap_states.specs.declared.Tap.{Tap}
 use Rattle.stapl_syntax.specs.Trees.{ArrayTree, literal, PartTree, string, value, character, CompareTree, scalar, element, BodyTree, action, procedure, boolean, boolean_array, integer, integer_array, assign_array, assign_range, if_then, print, exported_value, exported_array, export, scan, pad, StmtTree}
-use Rattle.stapl_syntax.specs.Names.{numbered_from, numbered, inside_behind, key_eq, put_first, firsts_behind, declared_from, declared, variable_of}
+use Rattle.stapl_syntax.specs.Names.{numbered_from, numbered, inside_next, key_eq, put_first, firsts_after, declared_from, declared, variable_of}
 use Rattle.stapl_shapes.specs.Sizes.{statements_size}
 use Rattle.stapl_shapes.specs.Bytes.{literal_bytes, string_bytes, array_bytes, given_bytes, compare_bytes, part_bytes, body_bytes, statement_bytes, statements_bytes}
 use Rattle.stapl_meaning.specs.Turns.{rows}
-use Rattle.stapl_meaning.specs.Scopes.{data_behind, plays, idle, pieces_from, Preset, preset_of, presets_from, Played, as_played}
+use Rattle.stapl_meaning.specs.Scopes.{data_after, plays, idle, pieces_from, Preset, preset_of, presets_from, Played, as_played}
 use Rattle.stapl_meaning.proofs.Blocks.{preset_in}
 use Rattle.stapl_code.specs.declared.instr.PrintPart.{PrintPart}
 use Rattle.stapl_code.specs.declared.instr.PrintPart.TheVariants as parts
@@ -177,7 +177,7 @@ module _ {K V : Type 0} where
       by true = omega arith
       by false = omega (arith, length-append es (x ∷ []))
 
-  firsts_few : (eq : K → K → Bool) (xs es : List (K × V)) → length (firsts_behind eq es xs) ≤ length es + length xs
+  firsts_few : (eq : K → K → Bool) (xs es : List (K × V)) → length (firsts_after eq es xs) ≤ length es + length xs
   firsts_few eq [] es = omega arith
   firsts_few eq (x ∷ xs) es =
       let more = firsts_few eq xs (put_first eq es x) in
@@ -193,9 +193,9 @@ module _ {K V : Type 0} where
       length (declared_from declares now (numbered_from n (map Some sts))) ≤ length sts
   declared_few declares now n [] = omega arith
   declared_few declares now n (st ∷ rest) =
-      let behind = declared_from declares (inside_behind now st.body) (numbered_from (n + 1) (map Some rest)) in
-      let own = cons_few (declares now n st) behind in
-      let more = declared_few declares (inside_behind now st.body) (n + 1) rest in
+      let after = declared_from declares (inside_next now st.body) (numbered_from (n + 1) (map Some rest)) in
+      let own = cons_few (declares now n st) after in
+      let more = declared_few declares (inside_next now st.body) (n + 1) rest in
       omega (arith, own, more)
 
 some_bytes : (statements : List StmtTree) → length statements ≤ statements_bytes statements
@@ -409,14 +409,14 @@ pieces_few : (now : Option (List ℕ)) (rest : List StmtTree) →
     statements_bytes (pieces_from now rest) ≤ statements_bytes rest
 pieces_few now [] = omega arith
 pieces_few now (st ∷ rest) =
-    let more = pieces_few (data_behind now st.body) rest in
+    let more = pieces_few (data_after now st.body) rest in
     let own = by (plays now st.body) in
     omega (
       arith,
       more,
       own,
       sum_by-cons statement_bytes st rest,
-      sum_by-cons statement_bytes (if plays now st.body then st else idle) (pieces_from (data_behind now st.body) rest),
+      sum_by-cons statement_bytes (if plays now st.body then st else idle) (pieces_from (data_after now st.body) rest),
     )
   where
     by : (b : Bool) → statement_bytes (if b then st else idle) ≤ statement_bytes st
@@ -427,14 +427,14 @@ presets_few : (now : Option (List ℕ)) (rest : List StmtTree) →
     presets_bytes (presets_from now rest) ≤ statements_bytes rest
 presets_few now [] = omega arith
 presets_few now (st ∷ rest) =
-    let more = presets_few (data_behind now st.body) rest in
+    let more = presets_few (data_after now st.body) rest in
     let own = by (preset_of now st.body) refl in
     omega (
       arith,
       more,
       own,
       sum_by-cons statement_bytes st rest,
-      sum_by-cons preset_bytes (preset_of now st.body) (presets_from (data_behind now st.body) rest),
+      sum_by-cons preset_bytes (preset_of now st.body) (presets_from (data_after now st.body) rest),
     )
   where
     by : (o : Option Preset) → preset_of now st.body ≡ o → preset_bytes o ≤ statement_bytes st

@@ -13,7 +13,7 @@ use Rattle.stapl_meaning.specs.Turns.{operands, rows}
 use Rattle.stapl_code.specs.declared.instr.Instr.{Instr}
 use Rattle.stapl_code.specs.declared.instr.Instr.TheVariants.{Turn, LoadAt, Unary, Binary, ToInt, Call}
 use Rattle.stapl_code.specs.declared.instr.Source.TheVariants as sources
-use Rattle.stapl_codegen.specs.Emit.{operator_number, sign_number, absolute_number, literal_code, test_code, expr_code, int_code, operands_code, Firsts, last, between, behind_row, row_code, rows_code, body_code, firsts_at, preset_firsts, preset_code, presets_code, piece_code, pieces_code, code_to, retarget}
+use Rattle.stapl_codegen.specs.Emit.{operator_number, sign_number, absolute_number, literal_code, test_code, expr_code, int_code, operands_code, Firsts, last, between, after_row, row_code, rows_code, body_code, firsts_at, preset_firsts, preset_code, presets_code, piece_code, pieces_code, code_to, retarget}
 use Rattle.stapl_codegen.proofs.Rows.{IsRows, no_row, one_row, more_rows, rows_view}
 
 literal_retarget : (place : ℕ → ℕ) (kind : ValueKind) (z : ℤ) → retarget place (literal_code kind z) ≡ literal_code kind z
@@ -126,8 +126,8 @@ module _ (scope : Scope) (place : ℕ → ℕ) where
   rows_append : (first : Firsts) (bs : List BodyTree) (c d : List Instr) → rows_code scope place first bs (c ++ d) ≡ rows_code scope place first bs c ++ d
   rows_append first [] c d = refl
   rows_append first (b ∷ bs) c d =
-      ap (row_code scope place first b) (rows_append (behind_row first b) bs c d)
-      ∙ row_append first b (rows_code scope place (behind_row first b) bs c) d
+      ap (row_code scope place first b) (rows_append (after_row first b) bs c d)
+      ∙ row_append first b (rows_code scope place (after_row first b) bs c) d
 
   pub body_append : (first : Firsts) (b : BodyTree) (c d : List Instr) → body_code scope place first b (c ++ d) ≡ body_code scope place first b c ++ d
   body_append first b c d = rows_append first (rows b) c d
@@ -176,7 +176,7 @@ module _ (scope : Scope) (place : ℕ → ℕ) where
   rows_retarget : (first : Firsts) (bs : List BodyTree) (c : List Instr) → map (retarget place) (rows_code scope (λ i. i) first bs c) ≡ rows_code scope place first bs (map (retarget place) c)
   rows_retarget first [] c = refl
   rows_retarget first (b ∷ bs) c =
-      row_retarget first b (rows_code scope (λ i. i) (behind_row first b) bs c) ∙ ap (row_code scope place first b) (rows_retarget (behind_row first b) bs c)
+      row_retarget first b (rows_code scope (λ i. i) (after_row first b) bs c) ∙ ap (row_code scope place first b) (rows_retarget (after_row first b) bs c)
 
   pub body_retarget : (first : Firsts) (b : BodyTree) (c : List Instr) → map (retarget place) (body_code scope (λ i. i) first b c) ≡ body_code scope place first b (map (retarget place) c)
   body_retarget first b c = rows_retarget first (rows b) c
@@ -251,7 +251,7 @@ module _ (names : Names) (entry entry' : ℕ → ℕ) (number number' : List ℕ
   rows_same : (first : Firsts) (bs : List BodyTree) → RowsAlike bs → rows_code One place first bs [] ≡ rows_code Other place first bs []
   rows_same first [] alike = refl
   rows_same first (b ∷ bs) alike =
-      row_same first b alike.0 (rows_code One place (behind_row first b) bs []) ∙ ap (row_code Other place first b) (rows_same (behind_row first b) bs alike.1)
+      row_same first b alike.0 (rows_code One place (after_row first b) bs []) ∙ ap (row_code Other place first b) (rows_same (after_row first b) bs alike.1)
 
   pub body_same : (first : Firsts) (b : BodyTree) → CallsAlike b → body_code One place first b [] ≡ body_code Other place first b []
   body_same first b alike = rows_same first (rows b) (rows_alike b (rows b) (rows_view b) alike)

@@ -6,7 +6,7 @@ use Rattle.std.proofs.lemmas.List.Elements.{All-head, All-tail}
 use Rattle.std.proofs.lemmas.Option.{same_Some, none-some}
 use Rattle.stapl_syntax.specs.Trees.{BodyTree, procedure, data_block, end_procedure, end_data, StmtTree}
 use Rattle.stapl_syntax.specs.Statements.{ends_procedure}
-use Rattle.stapl_syntax.specs.Names.{numbered_from, inside_behind, inside_from}
+use Rattle.stapl_syntax.specs.Names.{numbered_from, inside_next, inside_from}
 use Rattle.stapl_meaning.specs.Scopes.{plays, block_at}
 use Rattle.stapl_meaning.specs.Typed.{procedure_name, procedure_names}
 use Rattle.stapl_meaning.proofs.Ordered.{IsNoData, is_no_data}
@@ -43,15 +43,15 @@ none_before st rest to ends none = λ k s from below at. by k s below at
     by zero s below at = ap (λ (x : StmtTree). ends_procedure x.body) (sym (same_Some st s at)) ∙ ends
     by (suc k) s below at = none k s (omega arith) (omega (arith, below)) at
 
-none_behind : (st : StmtTree) (rest : List StmtTree) (from to : ℕ) → NoneEnds rest from to → NoneEnds (st ∷ rest) (suc from) (suc to)
-none_behind st rest from to none = λ k s above below at. by k s above below at
+none_after : (st : StmtTree) (rest : List StmtTree) (from to : ℕ) → NoneEnds rest from to → NoneEnds (st ∷ rest) (suc from) (suc to)
+none_after st rest from to none = λ k s above below at. by k s above below at
   where
     by : (k : ℕ) (s : StmtTree) → suc from ≤ k → k < suc to → slice_get (st ∷ rest) k ≡ Some s → ends_procedure s.body ≡ false
     by zero s above below at = absurd (omega (arith, above))
     by (suc k) s above below at = none k s (omega (arith, above)) (omega (arith, below)) at
 
 one_more : (now : Option (List ℕ)) (st : StmtTree) (rest : List StmtTree) (to : ℕ) (block : List ℕ) → IsNoData st.body →
-    IsOpen (inside_behind now st.body) rest to block → IsOpen now (st ∷ rest) (suc to) block
+    IsOpen (inside_next now st.body) rest to block → IsOpen now (st ∷ rest) (suc to) block
 one_more now st rest to block plain (inr opened) =
     inr (record {
       at = suc opened.at;
@@ -59,7 +59,7 @@ one_more now st rest to block plain (inr opened) =
       head = opened.head;
       stands = opened.stands;
       begins = opened.begins;
-      none = none_behind st rest (suc opened.at) to opened.none;
+      none = none_after st rest (suc opened.at) to opened.none;
     })
 one_more now st rest to block plain (inl (is, none)) = by st.body refl plain is
   where
@@ -71,13 +71,13 @@ one_more now st rest to block plain (inl (is, none)) = by st.body refl plain is
           head = st;
           stands = refl;
           begins = subst (IsProcedure block) (sym same) begins;
-          none = none_behind st rest 0 to none;
+          none = none_after st rest 0 to none;
         })
 
     still : (b : BodyTree) → st.body ≡ b → ends_procedure b ≡ false → now ≡ Some block → IsOpen now (st ∷ rest) (suc to) block
     still b same ends within = inl (within, none_before st rest to (ap ends_procedure same ∙ ends) none)
 
-    by : (b : BodyTree) → st.body ≡ b → IsNoData b → inside_behind now b ≡ Some block → IsOpen now (st ∷ rest) (suc to) block
+    by : (b : BodyTree) → st.body ≡ b → IsNoData b → inside_next now b ≡ Some block → IsOpen now (st ∷ rest) (suc to) block
     by (procedure name uses) same plain within = here (procedure name uses) same (same_Some name block within)
     by (data_block name) same plain within = absurd plain
     by end_procedure same plain within = absurd (none-some block within)
@@ -90,7 +90,7 @@ opened_from now n sts zero block play within = inl (within, λ k st from below a
 opened_from now n [] (suc to) block play within = inl (within, λ k st from below at. absurd (none-some st at))
 opened_from now n (st ∷ rest) (suc to) block play within =
     one_more now st rest to block (is_no_data st.body (All-head Plays st rest play))
-    (opened_from (inside_behind now st.body) (n + 1) rest to block (All-tail Plays st rest play) within)
+    (opened_from (inside_next now st.body) (n + 1) rest to block (All-tail Plays st rest play) within)
 
 pub opened : (program : List StmtTree) (i : ℕ) (block : List ℕ) → All Plays program → block_at program i ≡ Some block → IsOpened program i block
 opened program i block play within = by (opened_from None 1 program i block play within)

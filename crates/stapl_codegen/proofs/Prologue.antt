@@ -112,10 +112,10 @@ module _ (program : Played) (place : ℕ → ℕ) (entries : List ℕ) (texts : 
         others
 
     prologue_follows : LeadsTo first_place rest → (i : ℕ) (presets : List (Option Preset)) → drop i program.presets ≡ presets → AllStart presets → Follows i presets
-    prologue_follows behind i [] e start s k = behind (placed_state place s) k
-    prologue_follows behind i (o ∷ presets) e start s k =
+    prologue_follows after i [] e start s k = after (placed_state place s) k
+    prologue_follows after i (o ∷ presets) e start s k =
         let next : drop (i + 1) program.presets ≡ presets = rw add-one (drop_tail i program.presets ∙ ap (drop 1) e) in
-        preset_follows i o presets e (All-head Starts o presets start) (prologue_follows behind (i + 1) presets next (All-tail Starts o presets start)) s k
+        preset_follows i o presets e (All-head Starts o presets start) (prologue_follows after (i + 1) presets next (All-tail Starts o presets start)) s k
 
   begun_placed : (t : Turned) → begun (entry_of entries) (placed place t) ≡ placed place (begun (entry_from program.pieces) t)
   begun_placed (Leads deeds i s) =
@@ -130,8 +130,8 @@ module _ (program : Played) (place : ℕ → ℕ) (entries : List ℕ) (texts : 
   pub begins_alike : (first_place : ℕ) (rest : List Instr) (s : State) (k : Chain) → AreKnown → AllStart program.presets → LeadsTo first_place rest →
       begins_chosen (entry_of entries) (stretch entries constants total (presets_code program place 0 program.presets rest) [] (placed_state place s) k)
       ≡ happens k (placed place (beginning program s))
-  begins_alike first_place rest s k known start behind =
+  begins_alike first_place rest s k known start after =
       let front : Turned = set_up_to program first_place program.presets s in
-      ap (begins_chosen (entry_of entries)) (prologue_follows first_place rest known behind 0 program.presets refl start s k)
+      ap (begins_chosen (entry_of entries)) (prologue_follows first_place rest known after 0 program.presets refl start s k)
       ∙ sym (happens_begun (entry_of entries) k (placed place front))
       ∙ ap (happens k) (begun_placed front ∙ ap (placed place) (set_up_alike program first_place program.presets s))

@@ -18,7 +18,7 @@ use Rattle.stapl_meaning.specs.Typed.{IsDeclared, IsTypedPreset}
 use Rattle.stapl_code.specs.declared.instr.Instr.{Instr}
 use Rattle.stapl_code.specs.declared.instr.Instr.TheVariants.{Push, PushBit, Store, SetBits, SetInts}
 use Rattle.stapl_code.specs.declared.raw.VarDef.{VarDef}
-use Rattle.stapl_code.specs.Kinds.{kinds_behind}
+use Rattle.stapl_code.specs.Kinds.{kinds_after}
 use Rattle.stapl_code.specs.Valid.{is_last, sets_up, kinds_kept, judged, prologue_break}
 use Rattle.stapl_meaning.specs.Turns.{rows}
 use Rattle.stapl_codegen.specs.Emit.{Firsts, row_texts, row_literals, rows_items, literals_of, preset_firsts, row_code, rows_code, preset_code, presets_code}
@@ -40,7 +40,7 @@ module _ (program : Played) where
   Fine ks rest = (i : ℕ) → prologue_break defs i ks rest ≡ None
 
   -- an instruction that leaves operands, and is not the last, and one that leaves none
-  one_more : (x y : Instr) (ks after : List ValueKind) (rest : List Instr) → kinds_behind defs x ks ≡ Some after → sets_up x ≡ true → Fine after (y ∷ rest) → Fine ks (x ∷ y ∷ rest)
+  one_more : (x y : Instr) (ks after : List ValueKind) (rest : List Instr) → kinds_after defs x ks ≡ Some after → sets_up x ≡ true → Fine after (y ∷ rest) → Fine ks (x ∷ y ∷ rest)
   one_more x y ks after rest finds sets more i =
       ap (λ o. judged o (sets_up x) i (λ ks. prologue_break defs (i + 1) ks (y ∷ rest))) finds
       ∙ ap (λ b. judged (Some after) b i (λ ks. prologue_break defs (i + 1) ks (y ∷ rest))) sets
@@ -50,7 +50,7 @@ module _ (program : Played) where
   none_left true = refl
   none_left false = refl
 
-  one_last : (x : Instr) (ks : List ValueKind) (rest : List Instr) → kinds_behind defs x ks ≡ Some [] → sets_up x ≡ true → Fine [] rest → Fine ks (x ∷ rest)
+  one_last : (x : Instr) (ks : List ValueKind) (rest : List Instr) → kinds_after defs x ks ≡ Some [] → sets_up x ≡ true → Fine [] rest → Fine ks (x ∷ rest)
   one_last x ks rest finds sets more i =
       ap (λ o. judged (kinds_kept (is_last rest) o) (sets_up x) i (λ ks. prologue_break defs (i + 1) ks rest)) finds
       ∙ ap (λ o. judged o (sets_up x) i (λ ks. prologue_break defs (i + 1) ks rest)) (none_left (is_last rest))

@@ -239,9 +239,9 @@ module _ (defs : List VarDef) (literals texts procedures : ℕ) where
     operands_range : (ks : List ValueKind) (os : List Operand) (rest : List Instr) → AllTyped defs look ks os → InRange rest → InRange (operands_code look os rest)
     operands_range ks [] rest typed more = more
     operands_range ks (o ∷ os) rest typed more =
-        let behind : List Instr = operands_code look os rest in
-        expr_range o.kind o.expr (test_code o.test behind) typed.0.fits
-        (test_range ks o.kind o.test behind typed.0.test (operands_range (o.kind ∷ ks) os rest typed.1 more))
+        let after : List Instr = operands_code look os rest in
+        expr_range o.kind o.expr (test_code o.test after) typed.0.fits
+        (test_range ks o.kind o.test after typed.0.test (operands_range (o.kind ∷ ks) os rest typed.1 more))
 
     source_range : (first : ℕ) (a : ArrayTree) → is_array look.kind a ≡ true → first + length (array_literals a) ≤ literals → IsSource (length defs) literals (source_code look first a)
     source_range first (literal bits) h few = omega (arith, few)

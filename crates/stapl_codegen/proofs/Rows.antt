@@ -33,14 +33,14 @@ CallsLast [] = Unit {0}
 CallsLast (b ∷ []) = Unit {0}
 CallsLast (b ∷ c ∷ bs) = (is_call b ≡ false) × CallsLast (c ∷ bs)
 
-behind_if : (e : ExprTree) (b : BodyTree) (bs : List BodyTree) → CallsLast bs → CallsLast (if_then e b ∷ bs)
-behind_if e b [] last = tt
-behind_if e b (c ∷ bs) last = (refl, last)
+after_if : (e : ExprTree) (b : BodyTree) (bs : List BodyTree) → CallsLast bs → CallsLast (if_then e b ∷ bs)
+after_if e b [] last = tt
+after_if e b (c ∷ bs) last = (refl, last)
 
 of_view : (b : BodyTree) (bs : List BodyTree) → IsRows b bs → CallsLast bs
 of_view _ _ (no_row b) = tt
 of_view _ _ (one_row b) = tt
-of_view _ _ (more_rows e b bs rows) = behind_if e b bs (of_view b bs rows)
+of_view _ _ (more_rows e b bs rows) = after_if e b bs (of_view b bs rows)
 
 pub calls_last : (b : BodyTree) → CallsLast (rows b)
 calls_last b = of_view b (rows b) (rows_view b)

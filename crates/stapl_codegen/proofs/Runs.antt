@@ -106,8 +106,8 @@ pieces_begin program i (st ∷ rest) e some =
         (pieces_code program (start_of program) (i + 1) rest ≢ [] → BeginsWithTurn program (pieces_code program (start_of program) (i + 1) rest)) →
         cond b (pieces_code program (start_of program) (i + 1) rest) (piece_before program i st (pieces_code program (start_of program) (i + 1) rest)) ≢ [] →
         BeginsWithTurn program (cond b (pieces_code program (start_of program) (i + 1) rest) (piece_before program i st (pieces_code program (start_of program) (i + 1) rest)))
-    by_outer true is behind some = behind some
-    by_outer false is behind some = record {
+    by_outer true is beyond some = beyond some
+    by_outer false is beyond some = record {
       first = i;
       piece = i + 1;
       rest = body_code (scope_at program i) (start_of program) (firsts_at program i) st.body (pieces_code program (start_of program) (i + 1) rest);
@@ -137,23 +137,23 @@ module _ (program : Played) where
   abbrev From : ℕ → List StmtTree → List Instr
   From i sts = pieces_code program place i sts
 
-  behind_turn : (scope : Scope) (q : ℕ) (code : List Instr) → suc (length (Turn q ∷ code)) ≤ All → All - length (Turn q ∷ code) ≡ place scope.follow →
+  after_turn : (scope : Scope) (q : ℕ) (code : List Instr) → suc (length (Turn q ∷ code)) ≤ All → All - length (Turn q ∷ code) ≡ place scope.follow →
       Behind place Entries (texts_of program) (literals_of program) All scope (Turn q ∷ code)
-  behind_turn scope q code within e =
+  after_turn scope q code within e =
       let next : suc (All - suc (length (Turn q ∷ code))) ≡ All - length (Turn q ∷ code) = omega (arith, within) in
-      record { falls_on = λ t k. ap (λ n. let h : Happened = Led [] n t k in h) e; is_behind = next ∙ e }
+      record { falls_on = λ t k. ap (λ n. let h : Happened = Led [] n t k in h) e; is_after = next ∙ e }
 
   -- what follows a piece that is not the last of its procedure
-  behind_piece : (i : ℕ) (sts : List StmtTree) → drop (i + 1) program.pieces ≡ sts → suc (length (From (i + 1) sts)) ≤ All → GoesOn sts →
+  after_piece : (i : ℕ) (sts : List StmtTree) → drop (i + 1) program.pieces ≡ sts → suc (length (From (i + 1) sts)) ≤ All → GoesOn sts →
       Behind place Entries (texts_of program) (literals_of program) All (scope_at program i) (From (i + 1) sts)
-  behind_piece i [] e within go = absurd go
-  behind_piece i (st ∷ rest) e within go =
+  after_piece i [] e within go = absurd go
+  after_piece i (st ∷ rest) e within go =
       let code = body_code (scope_at program (i + 1)) place (firsts_at program (i + 1)) st.body (From (i + 1 + 1) rest) in
       let is : From (i + 1) (st ∷ rest) ≡ Turn (i + 1 + 1) ∷ code = ap (λ b. cond b (From (i + 1 + 1) rest) (Turn (i + 1 + 1) ∷ code)) go in
       let at = start_is program (i + 1) st (get_head (i + 1) program.pieces ∙ ap head_of e) go in
       let at' : All - length (Turn (i + 1 + 1) ∷ code) ≡ place (i + 1) = sym (at ∙ ap (λ l. All - length (From (i + 1) l)) e ∙ ap (λ c. All - length c) is) in
       subst (Behind place Entries (texts_of program) (literals_of program) All (scope_at program i)) (sym is)
-      (behind_turn (scope_at program i) (i + 1 + 1) code (omega (arith, within, ap length is)) at')
+      (after_turn (scope_at program i) (i + 1 + 1) code (omega (arith, within, ap length is)) at')
 
   module _ (closed : IsClosed program.pieces) (short : All ≤ nowhere) where
     none_there : (s : State) (k : Chain) → code_turn Entries These Code nowhere s k ≡ Lacks []
@@ -194,7 +194,7 @@ module _ (program : Played) where
         ∙ ap (λ b. begins Entries These All (cond b (From (i + 1) rest) (Turn (i + 1) ∷ body)) (placed_state place s) k) inner
         ∙ ap (happened_in_piece (i + 1))
         (body_follows place Entries (texts_of program) (literals_of program) All scope s k first st.body (From (i + 1) rest) (entry_is program)
-        (λ f. behind_piece i rest next (not_all i st rest e inner) (c.0 inner f)) (constants_at i program st rest e))
+        (λ f. after_piece i rest next (not_all i st rest e inner) (c.0 inner f)) (constants_at i program st rest e))
         ∙ sym (happens_in_piece k (i + 1) (placed place (done scope s st.body)))
         ∙ ap (happens k) (piece_placed place (i + 1) (done scope s st.body) ∙ ap (λ o. placed place (turn_of (scope_at program i) (i + 1) s o)) (sym at))
 
@@ -241,8 +241,8 @@ module _ (program : Played) where
       first_turn = pieces_begin program 0 program.pieces refl some
 
       -- after the prologue stands the turn of a piece
-      turn_behind : (t : State) (k : Chain) → stretch Entries These All (From 0 program.pieces) [] t k ≡ Led [] (place first_turn.first) t k
-      turn_behind t k =
+      turn_after : (t : State) (k : Chain) → stretch Entries These All (From 0 program.pieces) [] t k ≡ Led [] (place first_turn.first) t k
+      turn_after t k =
           ap (λ c. stretch Entries These All c [] t k) first_turn.is
           ∙ ap (λ n. let h : Happened = Led [] n t k in h) (ap (λ c. All - length c) (sym first_turn.is) ∙ sym first_turn.starts)
 
@@ -251,6 +251,6 @@ module _ (program : Played) where
           let s : State = start chosen (zeros_of program) in
           ap (λ h. goes_on h s k (code_run Entries These Code n))
           (begins_alike program place Entries (texts_of program) (literals_of program) All (entry_is program) first_turn.first (From 0 program.pieces) s k
-          (λ i preset others e. preset_known i program preset others e) start_all turn_behind
+          (λ i preset others e. preset_known i program preset others e) start_all turn_after
           ∙ happens_placed place k (beginning program s))
           ∙ goes_follows n (run_follows n) (happens k (beginning program s)) s k

@@ -13,7 +13,7 @@ use Rattle.stapl_code.specs.declared.instr.Cell.{Cell}
 use Rattle.stapl_code.specs.declared.instr.Cell.TheVariants as cells
 use Rattle.stapl_code.specs.Machine.{Slot, source_slots, given_slots, target_slots, cell_slots, compare_slots, scan_slots, target_of, cell_part, known_source, known_given, known_compare, known_scan}
 use Rattle.stapl_codegen.specs.Emit.{program_constants, past, array_literals, given_literals, compare_literals, source_code, given_code, target_code, compare_code, scan_code}
-use Rattle.stapl_codegen.proofs.Constants.{HasItems, has_front, has_behind, source_known, source_count}
+use Rattle.stapl_codegen.proofs.Constants.{HasItems, has_front, has_after, source_known, source_count}
 
 module _ (texts : List (List ℕ)) (literals : List (List Bool)) (look : Lookup) where
   pub given_known : (n : ℕ) (a : Option ArrayTree) → HasItems literals n (given_literals a) → known_given (program_constants texts literals) (given_code look n a) ≡ Known (given_source look a)
@@ -28,7 +28,7 @@ module _ (texts : List (List ℕ)) (literals : List (List Bool)) (look : Lookup)
       let second = known_source (program_constants texts literals) (source_code look (past n (array_literals expected)) mask) in
       ap (λ g. then_get g (λ e. then_get second (masked e))) (source_known texts literals look n expected (has_front literals n (array_literals expected) (array_literals mask) has))
       ∙ ap (λ g. then_get g (masked (source_of look expected)))
-      (source_known texts literals look (past n (array_literals expected)) mask (has_behind literals n (array_literals expected) (array_literals mask) has))
+      (source_known texts literals look (past n (array_literals expected)) mask (has_after literals n (array_literals expected) (array_literals mask) has))
 
   compare_known : (n : ℕ) (compare : Option CompareTree) → HasItems literals n (compare_literals compare) →
       known_compare (program_constants texts literals) (compare_code look n compare) ≡ Known (compare_parts look compare)
@@ -56,10 +56,10 @@ module _ (texts : List (List ℕ)) (literals : List (List Bool)) (look : Lookup)
       λ s t c. Known (record { register = register; source = s; target = t; compare = c })
       in
       let to : Option Target = option_map (target_of of_programs) (target_code look target) in
-      let behind : ℕ = past n (array_literals source) in
-      ap (λ g. then_get g (λ s. then_get (known_compare (program_constants texts literals) (compare_code look behind compare)) (parts s to)))
+      let after : ℕ = past n (array_literals source) in
+      ap (λ g. then_get g (λ s. then_get (known_compare (program_constants texts literals) (compare_code look after compare)) (parts s to)))
       (source_known texts literals look n source (has_front literals n (array_literals source) (compare_literals compare) has))
-      ∙ ap (λ g. then_get g (parts (source_of look source) to)) (compare_known behind compare (has_behind literals n (array_literals source) (compare_literals compare) has))
+      ∙ ap (λ g. then_get g (parts (source_of look source) to)) (compare_known after compare (has_after literals n (array_literals source) (compare_literals compare) has))
       ∙ ap (λ t. parts (source_of look source) t (compare_parts look compare)) (target_known target)
 
 -- lists of two parts that are as long as those of others

@@ -13,7 +13,7 @@ use Rattle.stapl_code.specs.declared.instr.Source.{Source}
 use Rattle.stapl_code.specs.declared.instr.Compare.{Compare}
 use Rattle.stapl_codegen.specs.Emit.{past, array_literals, operands_code, source_code, target_code, compare_code}
 use Rattle.stapl_codegen.specs.Drafts.{Draft, Site, scope_of_site, expr_code_in, operands_code_in, array_operands_in, source_in, target_operands_in, target_in, compare_operands_in, compare_in, body_code_in}
-use Rattle.stapl_codegen.proofs.Drafts.{behind_items}
+use Rattle.stapl_codegen.proofs.Drafts.{after_items}
 use Rattle.stapl_codegen.proofs.Lists.{operands_both, operands_before}
 
 -- operands, and others after them that depend on what names stand for
@@ -22,12 +22,12 @@ pub both_written : (os : List Operand) (more : Lookup → List Operand) (start f
     second.code ≡ start.code ++ operands_code_in start (os ++ more (scope_of_site start.site).look)
 both_written os more start first second own site others =
     let look : Lookup = (scope_of_site start.site).look in
-    let behind : List Instr = operands_code look (more look) [] in
+    let after : List Instr = operands_code look (more look) [] in
     others
     ∙ ap (λ (s : Site). first.code ++ operands_code (scope_of_site s).look (more (scope_of_site s).look) []) site
-    ∙ ap (λ c. c ++ behind) own
-    ∙ append_assoc start.code (operands_code look os []) behind
-    ∙ ap (λ c. start.code ++ c) (sym (operands_both look os (more look) [] ∙ operands_before look os behind))
+    ∙ ap (λ c. c ++ after) own
+    ∙ append_assoc start.code (operands_code look os []) after
+    ∙ ap (λ c. start.code ++ c) (sym (operands_both look os (more look) [] ∙ operands_before look os after))
 
 -- both arrays of a comparison, and then the index of its cell
 pub element_written : (expected mask : ArrayTree) (name : List ℕ) (index : ExprTree) (n : ℕ) (start both d : Draft) →
@@ -61,13 +61,13 @@ module _ (start d : Draft) (literals : List (List Bool)) (own : d.literals ≡ s
   look = (scope_of_site start.site).look
 
   next_is : length d.literals ≡ past (length start.literals) literals
-  next_is = sym (behind_items start.literals literals d.literals own)
+  next_is = sym (after_items start.literals literals d.literals own)
 
-  pub source_behind : (a : ArrayTree) → source_in d a ≡ source_code look (past (length start.literals) literals) a
-  source_behind a = ap (λ (s : Site). source_code (scope_of_site s).look (length d.literals) a) site ∙ ap (λ n. source_code look n a) next_is
+  pub source_after : (a : ArrayTree) → source_in d a ≡ source_code look (past (length start.literals) literals) a
+  source_after a = ap (λ (s : Site). source_code (scope_of_site s).look (length d.literals) a) site ∙ ap (λ n. source_code look n a) next_is
 
-  pub compare_behind : (compare : Option CompareTree) → compare_in d compare ≡ compare_code look (past (length start.literals) literals) compare
-  compare_behind compare = ap (λ (s : Site). compare_code (scope_of_site s).look (length d.literals) compare) site ∙ ap (λ n. compare_code look n compare) next_is
+  pub compare_after : (compare : Option CompareTree) → compare_in d compare ≡ compare_code look (past (length start.literals) literals) compare
+  compare_after compare = ap (λ (s : Site). compare_code (scope_of_site s).look (length d.literals) compare) site ∙ ap (λ n. compare_code look n compare) next_is
 
 -- what a draft was before a scan, and what it is after each part of it
 pub record AreDrafts (start counted shifted caught : Draft) (count : ExprTree) (source : ArrayTree) (target : Option ArrayTree) : Type 0 where
@@ -115,6 +115,6 @@ module _ (start counted shifted caught compared : Draft) (register : Register) (
       let none = are.count_literals ∙ sym (append-nil start.literals) in
       let some = are.target_literals ∙ are.source_literals ∙ ap (λ l. l ++ array_literals source) are.count_literals in
       last_written os (Scans (record { register = register; source = from; target = to; compare = against })) start compared code parts_written more
-      ∙ ap (λ f. put f to against) (from_is ∙ source_behind start counted [] none are.count_site source)
+      ∙ ap (λ f. put f to against) (from_is ∙ source_after start counted [] none are.count_site source)
       ∙ ap (λ t. put (source_code look n source) t against) (to_is ∙ ap (λ (s : Site). target_code (scope_of_site s).look target) shifted_site)
-      ∙ ap (λ c. put (source_code look n source) (target_code look target) c) (against_is ∙ compare_behind start caught (array_literals source) some caught_site compare)
+      ∙ ap (λ c. put (source_code look n source) (target_code look target) c) (against_is ∙ compare_after start caught (array_literals source) some caught_site compare)

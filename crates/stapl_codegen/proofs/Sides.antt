@@ -16,7 +16,7 @@ use Rattle.stapl_meaning.specs.declared.values.ValueKind.TheVariants as kinds
 use Rattle.stapl_meaning.specs.Values.{alike, side, unary_side}
 use Rattle.stapl_code.specs.declared.instr.Instr.TheVariants.{Unary, Binary}
 use Rattle.stapl_code.specs.declared.raw.VarDef.{VarDef}
-use Rattle.stapl_code.specs.Kinds.{kinds_behind}
+use Rattle.stapl_code.specs.Kinds.{kinds_after}
 use Rattle.stapl_codegen.specs.Emit.{operator_number, sign_number}
 
 -- an expression of this kind, if it has one, may stand where a value of a kind is wanted
@@ -149,61 +149,61 @@ alike_sides kinds.Int (Some Either) None h = absurd cc
 alike_sides kinds.Bit (Some Either) None h = absurd cc
 
 module _ (variables : List VarDef) where
-  pub unary_behind : (op : UnOp) (ks : List ValueKind) → kinds_behind variables (Unary (sign_number op)) (unary_side op ∷ ks) ≡ Some (unary_side op ∷ ks)
-  unary_behind signs.Negate ks = refl
-  unary_behind signs.Complement ks = refl
-  unary_behind signs.Not ks = refl
+  pub unary_after : (op : UnOp) (ks : List ValueKind) → kinds_after variables (Unary (sign_number op)) (unary_side op ∷ ks) ≡ Some (unary_side op ∷ ks)
+  unary_after signs.Negate ks = refl
+  unary_after signs.Complement ks = refl
+  unary_after signs.Not ks = refl
 
   -- the operands of an operator fit its sides, and it gives a value of this kind
   pub record Operates (op : BinOp) (kind : ValueKind) (a b : Option Kind) : Type 0 where
     pub both : Both (side op a b) a b
-    pub behind : (ks : List ValueKind) →
-        kinds_behind variables (Binary (operator_number op (side op a b))) (side op a b ∷ side op a b ∷ ks) ≡ Some (kind ∷ ks)
+    pub after : (ks : List ValueKind) →
+        kinds_after variables (Binary (operator_number op (side op a b))) (side op a b ∷ side op a b ∷ ks) ≡ Some (kind ∷ ks)
 
   -- with sides of either kind
-  equal_behind : (s : ValueKind) (ks : List ValueKind) → kinds_behind variables (Binary (operator_number operators.Equal s)) (s ∷ s ∷ ks) ≡ Some (kinds.Bit ∷ ks)
-  equal_behind kinds.Int ks = refl
-  equal_behind kinds.Bit ks = refl
+  equal_after : (s : ValueKind) (ks : List ValueKind) → kinds_after variables (Binary (operator_number operators.Equal s)) (s ∷ s ∷ ks) ≡ Some (kinds.Bit ∷ ks)
+  equal_after kinds.Int ks = refl
+  equal_after kinds.Bit ks = refl
 
-  unequal_behind : (s : ValueKind) (ks : List ValueKind) → kinds_behind variables (Binary (operator_number operators.NotEqual s)) (s ∷ s ∷ ks) ≡ Some (kinds.Bit ∷ ks)
-  unequal_behind kinds.Int ks = refl
-  unequal_behind kinds.Bit ks = refl
+  unequal_after : (s : ValueKind) (ks : List ValueKind) → kinds_after variables (Binary (operator_number operators.NotEqual s)) (s ∷ s ∷ ks) ≡ Some (kinds.Bit ∷ ks)
+  unequal_after kinds.Int ks = refl
+  unequal_after kinds.Bit ks = refl
 
-  and_behind : (s : ValueKind) (ks : List ValueKind) → kinds_behind variables (Binary (operator_number operators.BitAnd s)) (s ∷ s ∷ ks) ≡ Some (s ∷ ks)
-  and_behind kinds.Int ks = refl
-  and_behind kinds.Bit ks = refl
+  and_after : (s : ValueKind) (ks : List ValueKind) → kinds_after variables (Binary (operator_number operators.BitAnd s)) (s ∷ s ∷ ks) ≡ Some (s ∷ ks)
+  and_after kinds.Int ks = refl
+  and_after kinds.Bit ks = refl
 
-  xor_behind : (s : ValueKind) (ks : List ValueKind) → kinds_behind variables (Binary (operator_number operators.BitXor s)) (s ∷ s ∷ ks) ≡ Some (s ∷ ks)
-  xor_behind kinds.Int ks = refl
-  xor_behind kinds.Bit ks = refl
+  xor_after : (s : ValueKind) (ks : List ValueKind) → kinds_after variables (Binary (operator_number operators.BitXor s)) (s ∷ s ∷ ks) ≡ Some (s ∷ ks)
+  xor_after kinds.Int ks = refl
+  xor_after kinds.Bit ks = refl
 
-  or_behind : (s : ValueKind) (ks : List ValueKind) → kinds_behind variables (Binary (operator_number operators.BitOr s)) (s ∷ s ∷ ks) ≡ Some (s ∷ ks)
-  or_behind kinds.Int ks = refl
-  or_behind kinds.Bit ks = refl
+  or_after : (s : ValueKind) (ks : List ValueKind) → kinds_after variables (Binary (operator_number operators.BitOr s)) (s ∷ s ∷ ks) ≡ Some (s ∷ ks)
+  or_after kinds.Int ks = refl
+  or_after kinds.Bit ks = refl
 
   top : (s kind : ValueKind) (ks : List ValueKind) → s ≡ kind → Some (s ∷ ks) ≡ Some (kind ∷ ks)
   top s kind ks e = ap (λ k. Some (k ∷ ks)) e
 
   pub operates : (op : BinOp) (kind : ValueKind) (a b : Option Kind) → fits kind (binary_kind op a b) ≡ true → Operates op kind a b
-  operates operators.Multiply kind a b h = let t = integers kind Int a b h in record { both = t.0; behind = λ ks. top kinds.Int kind ks (int_only kind t.1) }
-  operates operators.Divide kind a b h = let t = integers kind Int a b h in record { both = t.0; behind = λ ks. top kinds.Int kind ks (int_only kind t.1) }
-  operates operators.Remainder kind a b h = let t = integers kind Int a b h in record { both = t.0; behind = λ ks. top kinds.Int kind ks (int_only kind t.1) }
-  operates operators.Add kind a b h = let t = integers kind Int a b h in record { both = t.0; behind = λ ks. top kinds.Int kind ks (int_only kind t.1) }
-  operates operators.Subtract kind a b h = let t = integers kind Int a b h in record { both = t.0; behind = λ ks. top kinds.Int kind ks (int_only kind t.1) }
-  operates operators.ShiftLeft kind a b h = let t = integers kind Int a b h in record { both = t.0; behind = λ ks. top kinds.Int kind ks (int_only kind t.1) }
-  operates operators.ShiftRight kind a b h = let t = integers kind Int a b h in record { both = t.0; behind = λ ks. top kinds.Int kind ks (int_only kind t.1) }
-  operates operators.Less kind a b h = let t = integers kind Bit a b h in record { both = t.0; behind = λ ks. top kinds.Bit kind ks (bit_only kind t.1) }
-  operates operators.AtMost kind a b h = let t = integers kind Bit a b h in record { both = t.0; behind = λ ks. top kinds.Bit kind ks (bit_only kind t.1) }
-  operates operators.Greater kind a b h = let t = integers kind Bit a b h in record { both = t.0; behind = λ ks. top kinds.Bit kind ks (bit_only kind t.1) }
-  operates operators.AtLeast kind a b h = let t = integers kind Bit a b h in record { both = t.0; behind = λ ks. top kinds.Bit kind ks (bit_only kind t.1) }
+  operates operators.Multiply kind a b h = let t = integers kind Int a b h in record { both = t.0; after = λ ks. top kinds.Int kind ks (int_only kind t.1) }
+  operates operators.Divide kind a b h = let t = integers kind Int a b h in record { both = t.0; after = λ ks. top kinds.Int kind ks (int_only kind t.1) }
+  operates operators.Remainder kind a b h = let t = integers kind Int a b h in record { both = t.0; after = λ ks. top kinds.Int kind ks (int_only kind t.1) }
+  operates operators.Add kind a b h = let t = integers kind Int a b h in record { both = t.0; after = λ ks. top kinds.Int kind ks (int_only kind t.1) }
+  operates operators.Subtract kind a b h = let t = integers kind Int a b h in record { both = t.0; after = λ ks. top kinds.Int kind ks (int_only kind t.1) }
+  operates operators.ShiftLeft kind a b h = let t = integers kind Int a b h in record { both = t.0; after = λ ks. top kinds.Int kind ks (int_only kind t.1) }
+  operates operators.ShiftRight kind a b h = let t = integers kind Int a b h in record { both = t.0; after = λ ks. top kinds.Int kind ks (int_only kind t.1) }
+  operates operators.Less kind a b h = let t = integers kind Bit a b h in record { both = t.0; after = λ ks. top kinds.Bit kind ks (bit_only kind t.1) }
+  operates operators.AtMost kind a b h = let t = integers kind Bit a b h in record { both = t.0; after = λ ks. top kinds.Bit kind ks (bit_only kind t.1) }
+  operates operators.Greater kind a b h = let t = integers kind Bit a b h in record { both = t.0; after = λ ks. top kinds.Bit kind ks (bit_only kind t.1) }
+  operates operators.AtLeast kind a b h = let t = integers kind Bit a b h in record { both = t.0; after = λ ks. top kinds.Bit kind ks (bit_only kind t.1) }
   operates operators.Equal kind a b h =
       let t = tested kind Bit ((is_int a && is_int b) || (is_bit a && is_bit b)) h in
-      record { both = equal_sides a b t.0; behind = λ ks. equal_behind (alike a b) ks ∙ top kinds.Bit kind ks (bit_only kind t.1) }
+      record { both = equal_sides a b t.0; after = λ ks. equal_after (alike a b) ks ∙ top kinds.Bit kind ks (bit_only kind t.1) }
   operates operators.NotEqual kind a b h =
       let t = tested kind Bit ((is_int a && is_int b) || (is_bit a && is_bit b)) h in
-      record { both = equal_sides a b t.0; behind = λ ks. unequal_behind (alike a b) ks ∙ top kinds.Bit kind ks (bit_only kind t.1) }
-  operates operators.BitAnd kind a b h = let t = alike_sides kind a b h in record { both = t.0; behind = λ ks. and_behind (alike a b) ks ∙ top (alike a b) kind ks t.1 }
-  operates operators.BitXor kind a b h = let t = alike_sides kind a b h in record { both = t.0; behind = λ ks. xor_behind (alike a b) ks ∙ top (alike a b) kind ks t.1 }
-  operates operators.BitOr kind a b h = let t = alike_sides kind a b h in record { both = t.0; behind = λ ks. or_behind (alike a b) ks ∙ top (alike a b) kind ks t.1 }
-  operates operators.And kind a b h = let t = booleans kind a b h in record { both = t.0; behind = λ ks. top kinds.Bit kind ks t.1 }
-  operates operators.Or kind a b h = let t = booleans kind a b h in record { both = t.0; behind = λ ks. top kinds.Bit kind ks t.1 }
+      record { both = equal_sides a b t.0; after = λ ks. unequal_after (alike a b) ks ∙ top kinds.Bit kind ks (bit_only kind t.1) }
+  operates operators.BitAnd kind a b h = let t = alike_sides kind a b h in record { both = t.0; after = λ ks. and_after (alike a b) ks ∙ top (alike a b) kind ks t.1 }
+  operates operators.BitXor kind a b h = let t = alike_sides kind a b h in record { both = t.0; after = λ ks. xor_after (alike a b) ks ∙ top (alike a b) kind ks t.1 }
+  operates operators.BitOr kind a b h = let t = alike_sides kind a b h in record { both = t.0; after = λ ks. or_after (alike a b) ks ∙ top (alike a b) kind ks t.1 }
+  operates operators.And kind a b h = let t = booleans kind a b h in record { both = t.0; after = λ ks. top kinds.Bit kind ks t.1 }
+  operates operators.Or kind a b h = let t = booleans kind a b h in record { both = t.0; after = λ ks. top kinds.Bit kind ks t.1 }

@@ -54,11 +54,11 @@ module _ {A : Type 0} (of : BodyTree → List A) where
       ∙ four_parts (rows_items of (rows s.body)) (preset_items of p) (pieces_items of (take i os) (take i sts)) (rows_items of (rows st.body) ++ preset_items of o)
 
   -- what follows the items of the first of some pieces
-  abbrev behind_first : List (Option Preset) → List StmtTree → List A
-  behind_first [] rest = statements_items of rest
-  behind_first (o ∷ os) rest = preset_items of o ++ pieces_items of os rest
+  abbrev after_first : List (Option Preset) → List StmtTree → List A
+  after_first [] rest = statements_items of rest
+  after_first (o ∷ os) rest = preset_items of o ++ pieces_items of os rest
 
-  first_is : (os : List (Option Preset)) (st : StmtTree) (rest : List StmtTree) → pieces_items of os (st ∷ rest) ≡ rows_items of (rows st.body) ++ behind_first os rest
+  first_is : (os : List (Option Preset)) (st : StmtTree) (rest : List StmtTree) → pieces_items of os (st ∷ rest) ≡ rows_items of (rows st.body) ++ after_first os rest
   first_is [] st rest = refl
   first_is (o ∷ os) st rest = refl
 
@@ -76,7 +76,7 @@ module _ {A : Type 0} (of : BodyTree → List A) where
     below : (front some more : List A) → All ≡ front ++ (some ++ more) → length front + length some ≤ length All
     below front some more e = omega (arith, ap length e, length-append front (some ++ more), length-append some more)
 
-    own_parts : (st : StmtTree) (rest : List StmtTree) → drop i sts ≡ st ∷ rest → All ≡ Before ++ (rows_items of (rows st.body) ++ behind_first (drop i os) rest)
+    own_parts : (st : StmtTree) (rest : List StmtTree) → drop i sts ≡ st ∷ rest → All ≡ Before ++ (rows_items of (rows st.body) ++ after_first (drop i os) rest)
     own_parts st rest e = parts i os sts ∙ ap (λ l. Before ++ pieces_items of (drop i os) l) e ∙ ap (λ l. Before ++ l) (first_is (drop i os) st rest)
 
     preset_parts : (preset : Preset) (others : List (Option Preset)) → drop i os ≡ Some preset ∷ others →
@@ -91,26 +91,26 @@ texts_parts : (i : ℕ) (program : Played) → pieces_items row_texts (take i []
 texts_parts i program = ap (λ (l : List (Option Preset)). pieces_items row_texts l (take i program.pieces)) (take-nil i)
 
 module _ (i : ℕ) (program : Played) (st : StmtTree) (rest : List StmtTree) (e : drop i program.pieces ≡ st ∷ rest) where
-  text_parts : texts_of program ≡ texts_before program i ++ (body_texts st.body ++ behind_first row_texts (drop i []) rest)
+  text_parts : texts_of program ≡ texts_before program i ++ (body_texts st.body ++ after_first row_texts (drop i []) rest)
   text_parts =
       own_parts row_texts i [] program.pieces st rest e
-      ∙ ap (λ l. l ++ (body_texts st.body ++ behind_first row_texts (drop i []) rest)) (texts_parts i program)
+      ∙ ap (λ l. l ++ (body_texts st.body ++ after_first row_texts (drop i []) rest)) (texts_parts i program)
 
-  literal_parts : literals_of program ≡ literals_before program i ++ (body_literals st.body ++ behind_first row_literals (drop i program.presets) rest)
+  literal_parts : literals_of program ≡ literals_before program i ++ (body_literals st.body ++ after_first row_literals (drop i program.presets) rest)
   literal_parts = own_parts row_literals i program.presets program.pieces st rest e
 
   pub constants_at : HasConstants (constants_in program) (firsts_at program i) (body_texts st.body) (body_literals st.body)
   constants_at = record {
-    texts = stand row_texts i [] program.pieces (texts_before program i) (body_texts st.body) (behind_first row_texts (drop i []) rest) text_parts;
-    literals = stand row_literals i program.presets program.pieces (literals_before program i) (body_literals st.body) (behind_first row_literals (drop i program.presets) rest) literal_parts;
+    texts = stand row_texts i [] program.pieces (texts_before program i) (body_texts st.body) (after_first row_texts (drop i []) rest) text_parts;
+    literals = stand row_literals i program.presets program.pieces (literals_before program i) (body_literals st.body) (after_first row_literals (drop i program.presets) rest) literal_parts;
   }
 
   -- they are among those of the program
   pub texts_below : (firsts_at program i).text + length (body_texts st.body) ≤ length (texts_of program)
-  texts_below = below row_texts i [] program.pieces (texts_before program i) (body_texts st.body) (behind_first row_texts (drop i []) rest) text_parts
+  texts_below = below row_texts i [] program.pieces (texts_before program i) (body_texts st.body) (after_first row_texts (drop i []) rest) text_parts
 
   pub literals_below : (firsts_at program i).literal + length (body_literals st.body) ≤ length (literals_of program)
-  literals_below = below row_literals i program.presets program.pieces (literals_before program i) (body_literals st.body) (behind_first row_literals (drop i program.presets) rest) literal_parts
+  literals_below = below row_literals i program.presets program.pieces (literals_before program i) (body_literals st.body) (after_first row_literals (drop i program.presets) rest) literal_parts
 
 -- ---- initial values of DATA blocks
 

@@ -8,7 +8,7 @@ use Rattle.stapl_syntax.specs.Trees.{BodyTree, procedure, data_block, end_data, 
 use Rattle.stapl_syntax.specs.Statements.{is_outer, ends_procedure}
 use Rattle.stapl_shapes.specs.Shapes.{is_inner_shape, HasShape}
 use Rattle.stapl_syntax.specs.declared.names.Declaration.{Declaration}
-use Rattle.stapl_syntax.specs.Names.{declaration, inside_behind}
+use Rattle.stapl_syntax.specs.Names.{declaration, inside_next}
 use Rattle.stapl_meaning.specs.Scopes.{Played, scope_at, block_at}
 use Rattle.stapl_meaning.specs.Typed.{IsInBlock, IsDeclared, IsTyped}
 use Rattle.stapl_meaning.proofs.Resolved.{inner_has_shape}
@@ -87,14 +87,14 @@ own_some [] are = absurd are
 own_some (x ∷ xs) are = omega arith
 
 -- a statement that begins no block and ends none leaves the open one
-stays_inside : (b : BodyTree) (now : Option (List ℕ)) → is_outer b ≡ false → ends_procedure b ≡ false → inside_behind now b ≡ now
+stays_inside : (b : BodyTree) (now : Option (List ℕ)) → is_outer b ≡ false → ends_procedure b ≡ false → inside_next now b ≡ now
 stays_inside (procedure name uses) now inner goes = absurd cc
 stays_inside (data_block name) now inner goes = absurd cc
 stays_inside end_data now inner goes = absurd cc
 stays_inside end_procedure now inner goes = absurd cc
 stays_inside _ now inner goes = refl
 
-begun : (b : BodyTree) (name : List ℕ) (now : Option (List ℕ)) → IsProcedure name b → inside_behind now b ≡ Some name
+begun : (b : BodyTree) (name : List ℕ) (now : Option (List ℕ)) → IsProcedure name b → inside_next now b ≡ Some name
 begun (procedure p uses) name now is = ap Some is
 begun _ name now is = absurd is
 
@@ -154,7 +154,7 @@ module _ (program : Played) (shaped : All HasShape program.pieces) (typed : IsTy
     -- the block that is open in the procedure is the procedure
     open_first : block_at program.pieces (h + 1) ≡ Some name
     open_first =
-        sym (inside_more program h head (at ∙ ap (λ l. head ∷ l) (sym own_at)) (block_at program.pieces h) (inside_behind (block_at program.pieces h) head.body) refl refl)
+        sym (inside_more program h head (at ∙ ap (λ l. head ∷ l) (sym own_at)) (block_at program.pieces h) (inside_next (block_at program.pieces h) head.body) refl refl)
         ∙ begun head.body name (block_at program.pieces h) is_head
 
     open_next : (k j : ℕ) (st next : StmtTree) (rest : List StmtTree) → j ≡ h + 1 + k → drop k own ≡ st ∷ next ∷ rest →
@@ -162,7 +162,7 @@ module _ (program : Played) (shaped : All HasShape program.pieces) (typed : IsTy
     open_next k j st next rest is e now =
         let here : drop j program.pieces ≡ st ∷ next ∷ rest ++ back = there k j st (next ∷ rest) is e in
         let after : drop (j + 1) program.pieces ≡ next ∷ rest ++ back = rw add-one (drop_tail j program.pieces ∙ ap (drop 1) here) in
-        sym (inside_more program j st (here ∙ ap (λ l. st ∷ l) (sym after)) (block_at program.pieces j) (inside_behind (block_at program.pieces j) st.body) refl refl)
+        sym (inside_more program j st (here ∙ ap (λ l. st ∷ l) (sym after)) (block_at program.pieces j) (inside_next (block_at program.pieces j) st.body) refl refl)
         ∙ stays_inside st.body (block_at program.pieces j) (own_inner own k st (next ∷ rest) are e) (own_goes_on own k st next rest are e)
         ∙ now
 
@@ -194,8 +194,8 @@ module _ (program : Played) (shaped : All HasShape program.pieces) (typed : IsTy
             start_from (h + 1) st (rest ++ back) (own_at ∙ ap (λ l. l ++ back) same) (own_inner (st ∷ rest) 0 st rest are' refl)
             ∙ sym (ap (λ l. length code - length (From (h + 1) (l ++ back))) same)
 
-    behind : (k j : ℕ) (st : StmtTree) (rest : List StmtTree) → j ≡ h + 1 + k → drop k own ≡ st ∷ rest → IsBehind k j (st ∷ rest)
-    behind k j st rest is e =
+    beyond : (k j : ℕ) (st : StmtTree) (rest : List StmtTree) → j ≡ h + 1 + k → drop k own ≡ st ∷ rest → IsBehind k j (st ∷ rest)
+    beyond k j st rest is e =
         let split = pieces_split program (start_of program) k (h + 1) own in
         let long = fewer k own st rest e in
         let own_code : procedure_code ≡ split.0 ++ From j (st ∷ rest) =
@@ -226,7 +226,7 @@ module _ (program : Played) (shaped : All HasShape program.pieces) (typed : IsTy
     -- the place of a statement of the procedure is that of a turn of it
     is_place : (k j : ℕ) (st : StmtTree) (rest : List StmtTree) → j ≡ h + 1 + k → drop k own ≡ st ∷ rest → is_target entry procedure_code (start_of program j) ≡ true
     is_place k j st rest is e =
-        let b = behind k j st rest is e in
+        let b = beyond k j st rest is e in
         let offset : start_of program j - entry ≡ length b.before = omega (arith, b.starts) in
         let above : nat_le entry (start_of program j) ≡ true = le-leb entry (start_of program j) (omega (arith, b.starts)) in
         let turn : slice_get procedure_code (start_of program j - entry) ≡ Some (Turn (j + 1)) =

@@ -23,12 +23,12 @@ use Rattle.stapl_code.specs.declared.instr.Source.TheVariants as sources
 use Rattle.stapl_code.specs.declared.instr.PrintPart.{PrintPart}
 use Rattle.stapl_code.specs.declared.raw.VarDef.{VarDef}
 use Rattle.stapl_code.specs.Machine.{AnInteger, ABoolean, AnArray, OfBits, OfInts, part_slots}
-use Rattle.stapl_code.specs.Kinds.{then_kinds, put_on, taken_off, variable_kind, is_met, all_off, kinds_behind}
+use Rattle.stapl_code.specs.Kinds.{then_kinds, put_on, taken_off, variable_kind, is_met, all_off, kinds_after}
 use Rattle.stapl_code.specs.Kinds as code
 use Rattle.stapl_code.specs.Valid.{is_last, stands_well, departs, judged, rest_break}
-use Rattle.stapl_codegen.specs.Emit.{literal_code, expr_code, int_code, test_code, operands_code, shown_part, print_parts, operator_number, sign_number, absolute_number, Firsts, last, between, behind_row, row_code, rows_code}
+use Rattle.stapl_codegen.specs.Emit.{literal_code, expr_code, int_code, test_code, operands_code, shown_part, print_parts, operator_number, sign_number, absolute_number, Firsts, last, between, after_row, row_code, rows_code}
 use Rattle.stapl_codegen.specs.Generated.{kind_number}
-use Rattle.stapl_codegen.proofs.Sides.{fits, held_kind, scalar_fits, item_kind, element_fits, indexed_fits, unary_fits, integer_fits, unary_behind, operates}
+use Rattle.stapl_codegen.proofs.Sides.{fits, held_kind, scalar_fits, item_kind, element_fits, indexed_fits, unary_fits, integer_fits, unary_after, operates}
 
 -- ---- nothing of it is the last instruction
 
@@ -77,7 +77,7 @@ between_last scope _ x rest = refl
 pub rows_last : (scope : Scope) (place : ℕ → ℕ) (first : Firsts) (bs : List BodyTree) (rest : List Instr) → is_last rest ≡ false → is_last (rows_code scope place first bs rest) ≡ false
 rows_last scope place first [] rest some = some
 rows_last scope place first (b ∷ bs) rest some =
-    let more : List Instr = rows_code scope place (behind_row first b) bs rest in
+    let more : List Instr = rows_code scope place (after_row first b) bs rest in
     operands_last scope.look (operands scope b) (between scope b (last scope place first b ∷ more)) (between_last scope b (last scope place first b) more)
 
 -- ---- typed operands
@@ -260,7 +260,7 @@ module _ (variables : List VarDef) (entry : ℕ) (code : List Instr) where
   abbrev pub Fine : Bool → List ValueKind → List Instr → Type 0
   Fine must ks rest = (i : ℕ) → rest_break variables entry code i must ks rest ≡ None
 
-  pub fine_step : (must : Bool) (x : Instr) (ks after : List ValueKind) (rest : List Instr) → kinds_behind variables x ks ≡ Some after →
+  pub fine_step : (must : Bool) (x : Instr) (ks after : List ValueKind) (rest : List Instr) → kinds_after variables x ks ≡ Some after →
       stands_well entry code must x (is_last rest) ≡ true → Fine (departs x) after rest → Fine must ks (x ∷ rest)
   fine_step must x ks after rest finds stands more i =
       ap (λ o. judged o (stands_well entry code must x (is_last rest)) i (λ ks. rest_break variables entry code (i + 1) (departs x) ks rest)) finds
@@ -268,7 +268,7 @@ module _ (variables : List VarDef) (entry : ℕ) (code : List Instr) where
       ∙ more (i + 1)
 
   -- an instruction of an expression, which is not the last one
-  fine_put : (x : Instr) (ks after : List ValueKind) (rest : List Instr) → kinds_behind variables x ks ≡ Some after →
+  fine_put : (x : Instr) (ks after : List ValueKind) (rest : List Instr) → kinds_after variables x ks ≡ Some after →
       stands_well entry code false x false ≡ true → departs x ≡ false → is_last rest ≡ false → Fine false after rest → Fine false ks (x ∷ rest)
   fine_put x ks after rest finds stands stays some more =
       fine_step false x ks after rest finds (ap (stands_well entry code false x) some ∙ stands) (subst (λ d. Fine d after rest) (sym stays) more)
@@ -291,21 +291,21 @@ module _ (variables : List VarDef) (entry : ℕ) (code : List Instr) where
           fine_put (Load (look.variable name)) ks (kind ∷ ks) rest (ap (λ k. then_kinds (put_on k ks) Some) found) refl refl some more
       expr_fine kind (unary op e) ks rest h some more =
           let t = unary_fits op kind (expr_kind look.kind e) h in
-          let behind : List Instr = Unary (sign_number op) ∷ rest in
-          expr_fine (unary_side op) e ks behind t.0 refl
-          (fine_put (Unary (sign_number op)) (unary_side op ∷ ks) (unary_side op ∷ ks) rest (unary_behind variables op ks) refl refl some
+          let beyond : List Instr = Unary (sign_number op) ∷ rest in
+          expr_fine (unary_side op) e ks beyond t.0 refl
+          (fine_put (Unary (sign_number op)) (unary_side op ∷ ks) (unary_side op ∷ ks) rest (unary_after variables op ks) refl refl some
           (subst (λ k. Fine false (k ∷ ks) rest) (sym t.1) more))
       expr_fine kind (binary op a b) ks rest h some more =
           let s : ValueKind = sides look op a b in
           let t = operates variables op kind (expr_kind look.kind a) (expr_kind look.kind b) h in
-          let behind : List Instr = Binary (operator_number op s) ∷ rest in
-          expr_fine s a ks (expr_code look s b behind) t.both.0 (expr_last look s b behind)
-          (expr_fine s b (s ∷ ks) behind t.both.1 refl
-          (fine_put (Binary (operator_number op s)) (s ∷ s ∷ ks) (kind ∷ ks) rest (t.behind ks) refl refl some more))
+          let beyond : List Instr = Binary (operator_number op s) ∷ rest in
+          expr_fine s a ks (expr_code look s b beyond) t.both.0 (expr_last look s b beyond)
+          (expr_fine s b (s ∷ ks) beyond t.both.1 refl
+          (fine_put (Binary (operator_number op s)) (s ∷ s ∷ ks) (kind ∷ ks) rest (t.after ks) refl refl some more))
       expr_fine kind (abs e) ks rest h some more =
           let t = integer_fits kind (is_int (expr_kind look.kind e)) h in
-          let behind : List Instr = Unary absolute_number ∷ rest in
-          expr_fine kinds.Int e ks behind t.0 refl
+          let beyond : List Instr = Unary absolute_number ∷ rest in
+          expr_fine kinds.Int e ks beyond t.0 refl
           (fine_put (Unary absolute_number) (kinds.Int ∷ ks) (kinds.Int ∷ ks) rest refl refl refl some
           (subst (λ k. Fine false (k ∷ ks) rest) (sym t.1) more))
       expr_fine kind (element name index) ks rest h some more =
@@ -343,16 +343,16 @@ module _ (variables : List VarDef) (entry : ℕ) (code : List Instr) where
     test_fine kind Plain ks rest fits some more = more
     test_fine kind Character ks rest fits some more =
         fine_step false CheckChar (kind ∷ ks) (kind ∷ ks) rest
-        (ap (λ k. kinds_behind variables CheckChar (k ∷ ks)) fits ∙ ap (λ k. Some (k ∷ ks)) (sym fits)) (ap (stands_well entry code false CheckChar) some) more
+        (ap (λ k. kinds_after variables CheckChar (k ∷ ks)) fits ∙ ap (λ k. Some (k ∷ ks)) (sym fits)) (ap (stands_well entry code false CheckChar) some) more
     test_fine kind (Index n) ks rest fits some more =
         fine_step false (CheckIndex n) (kind ∷ ks) (kind ∷ ks) rest
-        (ap (λ k. kinds_behind variables (CheckIndex n) (k ∷ ks)) fits.0 ∙ ap (λ b. if b && true then Some (kinds.Int ∷ ks) else None) fits.1 ∙ ap (λ k. Some (k ∷ ks)) (sym fits.0))
+        (ap (λ k. kinds_after variables (CheckIndex n) (k ∷ ks)) fits.0 ∙ ap (λ b. if b && true then Some (kinds.Int ∷ ks) else None) fits.1 ∙ ap (λ k. Some (k ∷ ks)) (sym fits.0))
         (ap (stands_well entry code false (CheckIndex n)) some) more
     test_fine kind (Range n) [] rest fits some more = absurd fits
     test_fine kind (Range n) (k ∷ ks) rest fits some more =
         fine_step false (CheckRange n) (kind ∷ k ∷ ks) (kind ∷ k ∷ ks) rest
-        (ap (λ x. kinds_behind variables (CheckRange n) (x ∷ k ∷ ks)) fits.0
-        ∙ ap (λ x. kinds_behind variables (CheckRange n) (kinds.Int ∷ x ∷ ks)) fits.1
+        (ap (λ x. kinds_after variables (CheckRange n) (x ∷ k ∷ ks)) fits.0
+        ∙ ap (λ x. kinds_after variables (CheckRange n) (kinds.Int ∷ x ∷ ks)) fits.1
         ∙ ap (λ b. if b && true then Some (kinds.Int ∷ kinds.Int ∷ ks) else None) fits.2
         ∙ ap (λ x. Some (kinds.Int ∷ x ∷ ks)) (sym fits.1)
         ∙ ap (λ x. Some (x ∷ k ∷ ks)) (sym fits.0))
@@ -362,9 +362,9 @@ module _ (variables : List VarDef) (entry : ℕ) (code : List Instr) where
         Fine false (kinds_onto os ks) rest → Fine false ks (operands_code look os rest)
     operands_fine [] ks rest typed some more = more
     operands_fine (o ∷ os) ks rest typed some more =
-        let behind : List Instr = operands_code look os rest in
-        expr_fine o.kind o.expr ks (test_code o.test behind) typed.0.fits (test_last look o.test behind (operands_last look os rest some))
-        (test_fine o.kind o.test ks behind typed.0.test (operands_last look os rest some) (operands_fine os (o.kind ∷ ks) rest typed.1 some more))
+        let beyond : List Instr = operands_code look os rest in
+        expr_fine o.kind o.expr ks (test_code o.test beyond) typed.0.fits (test_last look o.test beyond (operands_last look os rest some))
+        (test_fine o.kind o.test ks beyond typed.0.test (operands_last look os rest some) (operands_fine os (o.kind ∷ ks) rest typed.1 some more))
 
   -- what stands after a statement that is not the last: more instructions, which a statement may also jump over
   pub record Follows (rest : List Instr) : Type 0 where
@@ -374,7 +374,7 @@ module _ (variables : List VarDef) (entry : ℕ) (code : List Instr) where
   -- What a row has to have: its operands are typed, and its last instruction finds them and stands well.
   pub record IsGood (scope : Scope) (place : ℕ → ℕ) (first : Firsts) (b : BodyTree) : Type 0 where
     pub typed : AllTyped variables scope.look [] (operands scope b)
-    pub finds : kinds_behind variables (last scope place first b) (kinds_onto (operands scope b) []) ≡ Some []
+    pub finds : kinds_after variables (last scope place first b) (kinds_onto (operands scope b) []) ≡ Some []
     pub stands : stands_well entry code false (last scope place first b) false ≡ true
 
   pub row_fine : (scope : Scope) (place : ℕ → ℕ) (first : Firsts) (b : BodyTree) (rest : List Instr) → Agrees variables scope.look →
@@ -389,7 +389,7 @@ module _ (variables : List VarDef) (entry : ℕ) (code : List Instr) where
   -- a POP, whose last instruction finds the value of a record above the operands
   pub pop_fine : (scope : Scope) (place : ℕ → ℕ) (first : Firsts) (cell : ExprTree) (kind : ValueKind) (rest : List Instr) → Agrees variables scope.look →
       ((l : List Instr) → between scope (pop cell) l ≡ PopRecord kind ∷ l) → AllTyped variables scope.look [] (operands scope (pop cell)) →
-      kinds_behind variables (last scope place first (pop cell)) (kind ∷ kinds_onto (operands scope (pop cell)) []) ≡ Some [] →
+      kinds_after variables (last scope place first (pop cell)) (kind ∷ kinds_onto (operands scope (pop cell)) []) ≡ Some [] →
       stands_well entry code false (last scope place first (pop cell)) false ≡ true → is_last rest ≡ false → Fine (departs (last scope place first (pop cell))) [] rest →
       Fine false [] (row_code scope place first (pop cell) rest)
   pop_fine scope place first cell kind rest agrees taken typed finds stands some more =

@@ -28,7 +28,7 @@ use Rattle.stapl_code.specs.declared.instr.Instr.{Instr}
 use Rattle.stapl_code.specs.declared.instr.Instr.TheVariants.{Turn, Store, StoreAt, SetBits, SetInts, For, Next, PushRecord, Jump, JumpIfZero, Export, Wait, Frequency}
 use Rattle.stapl_code.specs.declared.raw.VarDef.{VarDef}
 use Rattle.stapl_code.specs.Machine.{source_wants, wants}
-use Rattle.stapl_code.specs.Kinds.{off, then_kinds, taken_off, variable_kind, element_kind as element_kind_of, is_met, kinds_moved, kinds_behind}
+use Rattle.stapl_code.specs.Kinds.{off, then_kinds, taken_off, variable_kind, element_kind as element_kind_of, is_met, kinds_moved, kinds_after}
 use Rattle.stapl_code.specs.Valid.{is_last, is_target, stands_well}
 use Rattle.stapl_codegen.specs.Emit.{export_part, source_code, Firsts, last, body_code}
 use Rattle.stapl_codegen.proofs.Views.{IsInner, an_end, a_bit, some_bits, an_integer, no_integers, some_integers, a_simple, inner_view}
@@ -101,26 +101,26 @@ off_same kinds.Bit ks = refl
 
 -- what instructions find: a value that goes into a scalar of its kind, and variables that they want
 module _ (variables : List VarDef) where
-  pub store_finds : (n : ℕ) (kind : ValueKind) → variable_kind (slice_get variables n) ≡ Some kind → kinds_behind variables (Store n) (kind ∷ []) ≡ Some []
+  pub store_finds : (n : ℕ) (kind : ValueKind) → variable_kind (slice_get variables n) ≡ Some kind → kinds_after variables (Store n) (kind ∷ []) ≡ Some []
   store_finds n kind found = ap (λ k. then_kinds (taken_off k (kind ∷ [])) Some) found ∙ ap (λ o. then_kinds o Some) (off_same kind [])
 
-  push_finds : (kind : ValueKind) → kinds_behind variables (PushRecord kind) (kind ∷ []) ≡ Some []
+  push_finds : (kind : ValueKind) → kinds_after variables (PushRecord kind) (kind ∷ []) ≡ Some []
   push_finds kind = ap (λ o. then_kinds o Some) (off_same kind [])
 
-  export_finds : (key : ℕ) (kind : ValueKind) → kinds_behind variables (Export key (export_part kind)) (kind ∷ []) ≡ Some []
+  export_finds : (key : ℕ) (kind : ValueKind) → kinds_after variables (Export key (export_part kind)) (kind ∷ []) ≡ Some []
   export_finds key kinds.Int = refl
   export_finds key kinds.Bit = refl
 
   -- the counts of a WAIT, and a frequency
-  wait_finds : (at end : Tap) (usec : Option ExprTree) → kinds_behind variables (Wait at (kind_of_wait usec) end) (kinds_onto (integer_given usec) (kinds.Int ∷ [])) ≡ Some []
+  wait_finds : (at end : Tap) (usec : Option ExprTree) → kinds_after variables (Wait at (kind_of_wait usec) end) (kinds_onto (integer_given usec) (kinds.Int ∷ [])) ≡ Some []
   wait_finds at end None = refl
   wait_finds at end (Some e) = refl
 
-  frequency_finds : (hertz : Option ExprTree) → kinds_behind variables (Frequency (is_some hertz)) (kinds_onto (integer_given hertz) []) ≡ Some []
+  frequency_finds : (hertz : Option ExprTree) → kinds_after variables (Frequency (is_some hertz)) (kinds_onto (integer_given hertz) []) ≡ Some []
   frequency_finds None = refl
   frequency_finds (Some e) = refl
 
-  pub wanted : (x : Instr) (ks after : List ValueKind) → list_all (is_met variables) (wants x) ≡ true → kinds_moved variables x ks ≡ Some after → kinds_behind variables x ks ≡ Some after
+  pub wanted : (x : Instr) (ks after : List ValueKind) → list_all (is_met variables) (wants x) ≡ true → kinds_moved variables x ks ≡ Some after → kinds_after variables x ks ≡ Some after
   wanted x ks after met moved = ap (λ b. if b then kinds_moved variables x ks else None) met ∙ moved
 
 module _ (variables : List VarDef) (entry : ℕ) (code : List Instr) where
@@ -146,7 +146,7 @@ module _ (variables : List VarDef) (entry : ℕ) (code : List Instr) where
     Good first b = IsGood variables entry code scope place first b
 
     -- a value goes into an element of its kind
-    store_at_finds : (n : ℕ) (kind : ValueKind) → element_kind_of (slice_get variables n) ≡ Some kind → kinds_behind variables (StoreAt n) (kind ∷ kinds.Int ∷ []) ≡ Some []
+    store_at_finds : (n : ℕ) (kind : ValueKind) → element_kind_of (slice_get variables n) ≡ Some kind → kinds_after variables (StoreAt n) (kind ∷ kinds.Int ∷ []) ≡ Some []
     store_at_finds n kind found =
         ap (λ k. then_kinds (then_kinds (taken_off k (kind ∷ kinds.Int ∷ [])) (taken_off (Some kinds.Int))) Some) found
         ∙ ap (λ o. then_kinds (then_kinds o (taken_off (Some kinds.Int))) Some) (off_same kind (kinds.Int ∷ []))

@@ -99,35 +99,35 @@ module _ (program : Played) (shaped : All HasShape program.pieces) (typed : IsTy
       let is_head : IsProcedure name head.body = subst (IsProcedure name) (sym is) refl in
       let entry : ℕ = start_of program (h + 1) in
       let own_code : List Instr = From (h + 1) own in
-      let behind : ℕ = h + 1 + length own in
+      let beyond : ℕ = h + 1 + length own in
       let total : ℕ = length code in
       let p : ProcDef = record { name = name; entry = entry } in
-      let list : procedures h (head ∷ own ++ back) ≡ p ∷ procedures behind back =
+      let list : procedures h (head ∷ own ++ back) ≡ p ∷ procedures beyond back =
       ap (λ b. procedure_def entry b (procedures (h + 1) (own ++ back))) is ∙ ap (λ l. p ∷ l) (none_in (start_of program) (h + 1) own back are) in
       let head_code : From h (head ∷ own ++ back) ≡ From (h + 1) (own ++ back) = outer_code h head (own ++ back) outer in
-      let split : From (h + 1) (own ++ back) ≡ own_code ++ From behind back = pieces_append program (start_of program) (h + 1) own back in
+      let split : From (h + 1) (own ++ back) ≡ own_code ++ From beyond back = pieces_append program (start_of program) (h + 1) own back in
       let entry_is : entry ≡ total - length (From (h + 1) (own ++ back)) = valid.entry_is program shaped typed head name is_head h own back at are in
       let within : length (From (h + 1) (own ++ back)) ≤ total = valid.code_within program shaped typed (h + 1) (own ++ back) (valid.own_at program shaped typed head name is_head h own back at are) in
       let some : 0 < length own_code = valid.code_some program shaped typed head name is_head h own back at are in
-      let lengths : length (From (h + 1) (own ++ back)) ≡ length own_code + length (From behind back) = ap length split ∙ length-append own_code (From behind back) in
-      let after : next_entry total (procedures behind back) - entry ≡ length own_code = omega (arith, fine.next, entry_is, within, lengths) in
-      let slice : slice_range code entry (next_entry total (procedures behind back)) ≡ own_code =
+      let lengths : length (From (h + 1) (own ++ back)) ≡ length own_code + length (From beyond back) = ap length split ∙ length-append own_code (From beyond back) in
+      let after : next_entry total (procedures beyond back) - entry ≡ length own_code = omega (arith, fine.next, entry_is, within, lengths) in
+      let slice : slice_range code entry (next_entry total (procedures beyond back)) ≡ own_code =
       ap (λ n. take n (drop entry code)) after
       ∙ ap (take (length own_code)) (valid.code_at program shaped typed head name is_head h own back at are ∙ split)
-      ∙ take_at own_code (From behind back) (length own_code) refl in
-      let whole : List ProcDef = p ∷ procedures behind back in
+      ∙ take_at own_code (From beyond back) (length own_code) refl in
+      let whole : List ProcDef = p ∷ procedures beyond back in
       let fine_whole : AreFine (total - length (From (h + 1) (own ++ back))) whole = record {
         next = entry_is;
-        unbroken = ap (λ c. first_of (procedure_break defs entry c) (procedures_break defs code (procedures behind back))) slice
-            ∙ ap (λ o. first_of o (procedures_break defs code (procedures behind back))) (valid.procedure_fine program shaped typed head name is_head h own back at are)
+        unbroken = ap (λ c. first_of (procedure_break defs entry c) (procedures_break defs code (procedures beyond back))) slice
+            ∙ ap (λ o. first_of o (procedures_break defs code (procedures beyond back))) (valid.procedure_fine program shaped typed head name is_head h own back at are)
             ∙ fine.unbroken;
         begin = (
           (omega (arith, entry_is), omega (arith, entry_is, within, lengths, some)),
-          each_map (BeginsFrom (total - length (From behind back))) (BeginsFrom (total - length (From (h + 1) (own ++ back)))) (procedures behind back)
+          each_map (BeginsFrom (total - length (From beyond back))) (BeginsFrom (total - length (From (h + 1) (own ++ back)))) (procedures beyond back)
               (λ q b. (omega (arith, b.0, lengths), b.1)) fine.begin,
         );
         rise = (
-          each_map (BeginsFrom (total - length (From behind back))) (λ (q : ProcDef). entry < q.entry) (procedures behind back)
+          each_map (BeginsFrom (total - length (From beyond back))) (λ (q : ProcDef). entry < q.entry) (procedures beyond back)
               (λ q b. omega (arith, b.0, entry_is, lengths, within, some)) fine.begin,
           fine.rise,
         );
@@ -167,9 +167,9 @@ module _ (program : Played) (shaped : All HasShape program.pieces) (typed : IsTy
       let c = cut false program.pieces typed.ordered in
       let is : program.pieces ≡ statements_in c.parts = c.is ∙ ap (λ l. l ++ statements_in c.parts) c.own_is in
       let fine = parts_fine c.parts 0 is c.are in
-      let behind : length code - length (From 0 program.pieces) ≡ length prologue =
+      let beyond : length code - length (From 0 program.pieces) ≡ length prologue =
       omega (arith, ap length prologue_first, length-append prologue (From 0 program.pieces)) in
-      subst (λ (n : ℕ). AreFine n (procedures_of program)) behind
+      subst (λ (n : ℕ). AreFine n (procedures_of program)) beyond
       (subst (λ (sts : List StmtTree). AreFine (length code - length (From 0 sts)) (procedures 0 sts)) (sym is) fine)
 
   begin_all : (start : ℕ) (ps : List ProcDef) → Each (BeginsFrom start) ps → list_all (λ (p : ProcDef). nat_lt p.entry (length code)) ps ≡ true

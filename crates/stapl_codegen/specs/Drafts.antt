@@ -5,7 +5,7 @@ use Rattle.std.specs.Map.{keys_of}
 use Rattle.std.specs.Str.{bytes_eq}
 use Rattle.stapl_syntax.specs.Trees.{ExprTree, ArrayTree, CompareTree, PartTree, BodyTree, StmtTree}
 use Rattle.stapl_syntax.specs.Statements.{is_outer}
-use Rattle.stapl_syntax.specs.Names.{Names, inside_behind}
+use Rattle.stapl_syntax.specs.Names.{Names, inside_next}
 use Rattle.stapl_meaning.specs.declared.values.ValueKind.{ValueKind}
 use Rattle.stapl_meaning.specs.Operands.{Operand, array_operands, given_operands, target_operands, compare_operands, part_operands}
 use Rattle.stapl_meaning.specs.Scopes.{Scope, Preset, Played, block_at, lookup_from, label_from}
@@ -61,8 +61,8 @@ site_at program i =
     }
 
 -- where the piece after this statement stands
-abbrev pub site_behind : Site → BodyTree → Site
-site_behind site b = record site { inside = inside_behind site.inside b; piece = site.piece + 1 }
+abbrev pub site_after : Site → BodyTree → Site
+site_after site b = record site { inside = inside_next site.inside b; piece = site.piece + 1 }
 
 -- the numbers of the next text and of the next literal
 abbrev pub firsts_in : Draft → Firsts

@@ -263,8 +263,8 @@ row_literals (pad which count a) = given_literals a
 row_literals _ = []
 
 -- the numbers after the texts and the literals of a row
-abbrev pub behind_row : Firsts → BodyTree → Firsts
-behind_row first b = record { text = past first.text (row_texts b); literal = past first.literal (row_literals b) }
+abbrev pub after_row : Firsts → BodyTree → Firsts
+after_row first b = record { text = past first.text (row_texts b); literal = past first.literal (row_literals b) }
 
 -- the code of a row, of rows one after the other, and of a statement, before the rest
 abbrev pub row_code : Scope → (ℕ → ℕ) → Firsts → BodyTree → List Instr → List Instr
@@ -273,7 +273,7 @@ row_code scope place first b rest =
 
 abbrev pub rows_code : Scope → (ℕ → ℕ) → Firsts → List BodyTree → List Instr → List Instr
 rows_code scope place first [] rest = rest
-rows_code scope place first (b ∷ bs) rest = row_code scope place first b (rows_code scope place (behind_row first b) bs rest)
+rows_code scope place first (b ∷ bs) rest = row_code scope place first b (rows_code scope place (after_row first b) bs rest)
 
 abbrev pub body_code : Scope → (ℕ → ℕ) → Firsts → BodyTree → List Instr → List Instr
 body_code scope place first b rest = rows_code scope place first (rows b) rest

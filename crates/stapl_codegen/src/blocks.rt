@@ -1,14 +1,14 @@
 //! Which statements play: those of no DATA block.
 ghost use Rattle.std.specs.Prelude.{◌≡◌, None, not};
 ghost use Rattle.stapl_syntax.specs.Trees.{body_tree};
-ghost use Rattle.stapl_meaning.specs.Scopes.{data_behind, plays, has_initial_value};
+ghost use Rattle.stapl_meaning.specs.Scopes.{data_after, plays, has_initial_value};
 
 use stapl_lexer::Name;
 use stapl_syntax::Body;
 
 /// The DATA block that is open after a statement, if this one was open before it.
-pub(crate) fn data_behind(block: Option<Name>, body: &Body) -> Option<Name>
-    ensures { result ≡ data_behind block (body_tree body.now) }
+pub(crate) fn data_after(block: Option<Name>, body: &Body) -> Option<Name>
+    ensures { result ≡ data_after block (body_tree body.now) }
 {
     match body {
         Body::Data(name) => Some(*name),

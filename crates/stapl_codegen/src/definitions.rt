@@ -8,7 +8,7 @@ ghost use Rattle.stapl_codegen.specs.Drafts.{AreStarts};
 ghost use Rattle.stapl_codegen.specs.Generated.{kind_number, variable_def};
 ghost use Rattle.stapl_codegen.specs.Numbers.{numbers_from, AreNumbers};
 
-use crate::blocks::{data_behind, plays};
+use crate::blocks::{data_after, plays};
 use crate::draft::start_of_place;
 use base::ItemList;
 use stapl_code::{ActionDef, ItemDef, ProcDef, VarDef};
@@ -84,7 +84,7 @@ pub(crate) fn procedures(
         let st = &program[i];
         let entry = start_of_place(program, starts, i as u32 + 1);
         put_procedure(&mut procedures, entry, plays(&block, &st.body), &st.body)?;
-        block = data_behind(block, &st.body);
+        block = data_after(block, &st.body);
     }
     Ok(procedures)
 }
@@ -97,7 +97,7 @@ pub(crate) struct Numbers<'a> {
 }
 
 // The number of the next procedure after a block, if it is this one before it.
-fn number_behind(block: &Block, next: u32) -> u32
+fn number_after(block: &Block, next: u32) -> u32
     requires { next < 2 ^ 32 - 1 }
     ensures { result ≡ (if block.now.is_data then next else suc next) }
 {
@@ -112,7 +112,7 @@ pub(crate) fn procedure_numbers(alloc: Global, names: &Names) -> Result<Vec<u32>
     let mut next = 0;
     for block in 0..names.blocks() {
         numbers.push(next)?;
-        next = number_behind(names.block_at(block), next);
+        next = number_after(names.block_at(block), next);
     }
     numbers.push(next)?;
     Ok(numbers)
@@ -206,7 +206,7 @@ pub(crate) fn actions(
     for st in program {
         let playing = plays(&block, &st.body);
         put_action(&mut actions, alloc, program, numbers, playing, &st.body)?;
-        block = data_behind(block, &st.body);
+        block = data_after(block, &st.body);
     }
     Ok(actions)
 }

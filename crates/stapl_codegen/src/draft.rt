@@ -5,11 +5,11 @@ ghost use Rattle.stapl_syntax.specs.Statements.{is_outer};
 ghost use Rattle.stapl_meaning.specs.Scopes.{idle, plays, preset_of, program_names, as_played};
 ghost use Rattle.stapl_code.specs.Machine.{nowhere};
 ghost use Rattle.stapl_codegen.specs.Emit.{row_literals, preset_items, body_texts, body_literals, texts_of, literals_of, program_code, start_of, retarget};
-ghost use Rattle.stapl_codegen.specs.Drafts.{site_behind, piece_code_in, preset_code_in, ArePresetsWritten, AreDrafted, AreStarts, IsDraft};
+ghost use Rattle.stapl_codegen.specs.Drafts.{site_after, piece_code_in, preset_code_in, ArePresetsWritten, AreDrafted, AreStarts, IsDraft};
 ghost use Rattle.stapl_codegen.specs.Accepted.{IsAccepted};
 ghost use Rattle.stapl_codegen.specs.Numbers.{numbers_from};
 
-use crate::blocks::{data_behind, has_initial_value, plays};
+use crate::blocks::{data_after, has_initial_value, plays};
 use crate::definitions::Numbers;
 use crate::emit::Emitter;
 use crate::literals::{own_literals, preset_literals, sum};
@@ -72,7 +72,7 @@ fn draft_piece(
         ≡ emitter.old.literals ++ (body_literals (if playing then stmt_tree st.now else idle).body
         ++ preset_items row_literals (preset_of block.now (body_tree st.now.body)))) }
     ensures site { OnOk result (emitter.new.site
-        ≡ site_behind emitter.old.site (if playing then stmt_tree st.now else idle).body) }
+        ≡ site_after emitter.old.site (if playing then stmt_tree st.now else idle).body) }
 {
     if playing {
         emitter.statement(st)?;
@@ -120,7 +120,7 @@ fn draft_presets(emitter: &mut Emitter, program: &[Stmt]) -> Result<(), AllocErr
         let own = sum(literals, own_literals(&block, &st.body))?;
         draft_preset(emitter, &block, &st.body, own)?;
         literals = sum(own, preset_literals(&block, &st.body))?;
-        block = data_behind(block, &st.body);
+        block = data_after(block, &st.body);
     }
     Ok(())
 }
@@ -141,7 +141,7 @@ fn draft_program(alloc: Global, program: &[Stmt], numbers: &Numbers) -> Result<W
         let playing = plays(&block, &st.body);
         starts.push(start_at(emitter.len(), playing, st))?;
         draft_piece(&mut emitter, playing, &block, st)?;
-        block = data_behind(block, &st.body);
+        block = data_after(block, &st.body);
     }
     let (code, texts, literals) = emitter.into_parts();
     Ok(Written {

@@ -6,7 +6,7 @@ ghost use Rattle.stapl_meaning.specs.Operands.{a_character, an_index, a_range};
 ghost use Rattle.stapl_code.specs.declared.instr.Instr.TheVariants.{Store, SetBits, SetInts, JumpIfZero};
 ghost use Rattle.stapl_codegen.specs.Emit.{part_texts, array_literals, row_texts, row_literals, body_texts, body_literals};
 ghost use Rattle.stapl_meaning.specs.Scopes.{has_initial_value};
-ghost use Rattle.stapl_codegen.specs.Drafts.{scope_of_site, site_behind};
+ghost use Rattle.stapl_codegen.specs.Drafts.{scope_of_site, site_after};
 ghost use Rattle.stapl_codegen.specs.Drafts.{expr_code_in, int_code_in, operands_code_in, array_operands_in, source_in, part_operands_in, print_parts_in, body_code_in, piece_code_in, initial_code_in, preset_code_in};
 
 use crate::definitions::Numbers;
@@ -19,7 +19,7 @@ use bit_list::Bits;
 use stapl_code::{Dest, Instr, Source};
 use stapl_lexer::{BinOp, Name};
 use stapl_meaning::{Text, ValueKind};
-use stapl_names::{Names, VariableKinds, expr_kind, inside_behind};
+use stapl_names::{Names, VariableKinds, expr_kind, inside_next};
 use stapl_syntax::{ArrayExpr, Body, Expr, Found, PrintPart, Stmt, VarKind};
 use std::alloc::{AllocError, Global};
 use std::marker::Model;
@@ -612,10 +612,10 @@ impl<'a> Emitter<'a> {
         ensures code { OnOk result (self.new.code ≡ self.old.code ++ piece_code_in self.old (stmt_tree st.now)) }
         ensures texts { OnOk result (self.new.texts ≡ self.old.texts ++ body_texts (body_tree st.now.body)) }
         ensures literals { OnOk result (self.new.literals ≡ self.old.literals ++ body_literals (body_tree st.now.body)) }
-        ensures site { OnOk result (self.new.site ≡ site_behind self.old.site (body_tree st.now.body)) }
+        ensures site { OnOk result (self.new.site ≡ site_after self.old.site (body_tree st.now.body)) }
     {
         self.turn(st)?;
-        self.inside = inside_behind(&self.inside, &st.body);
+        self.inside = inside_next(&self.inside, &st.body);
         self.piece += 1;
         Ok(())
     }
@@ -626,7 +626,7 @@ impl<'a> Emitter<'a> {
         ensures code { self.new.code ≡ self.old.code }
         ensures texts { self.new.texts ≡ self.old.texts }
         ensures literals { self.new.literals ≡ self.old.literals }
-        ensures site { self.new.site ≡ site_behind self.old.site end_data }
+        ensures site { self.new.site ≡ site_after self.old.site end_data }
     {
         self.inside = None;
         self.piece += 1;

@@ -11,7 +11,7 @@ use Rattle.stapl_syntax.specs.Expressions.{right_square, dots}
 use Rattle.stapl_syntax.specs.Parts.{Part, IsPart, hz, a_name, a_signed, an_expr, a_print_part, some_states, after, maybe_hz, maybe, either, listed, IsChoice, optional_item, recommended_item, IsSigned, unsigned, minus, IsPrintPart, of_string, of_value, of_character, comma, join, note_part, item_part, action_part, procedure_part, size_part, for_part, print_part, export_part, capture_part, compare_part, scan_part, pad_part, last_part, usec_part, first_part, frequency_part}
 use Rattle.stapl_grammar.specs.Looks.{after_mark, after_join, after_comma_join, is_mark, mark_number, is_join, join_number, begins_symbol, begins_state, is_state, begins_count, begins_text, begins_choice, choice_of, begins_anything}
 use Rattle.stapl_grammar.specs.Reading.{next_operator, operator_of}
-use Rattle.stapl_grammar.specs.PartReading.{behind_hz, more_states_at}
+use Rattle.stapl_grammar.specs.PartReading.{after_hz, more_states_at}
 use Rattle.stapl_grammar.specs.BodyReading.{boolean_part, integer_part, range_or_element_part, indexed_part, assign_part, units_part, wait_part}
 use Rattle.stapl_grammar.proofs.LeafLaws.{begins_term, some_symbol}
 use Rattle.stapl_grammar.proofs.ListLaws.{IsSign}
@@ -128,15 +128,15 @@ choice_shows recommended_item r = refl
 item_apart : IsApart item_part
 item_apart = (tt, (tt, record { by = λ x s r m h. choice_shows m r }), before_any (λ r. tt))
 
-comma_behind_item : (r : List Symbol) → Follows item_part (comma ∷ r)
+comma_after_item : (r : List Symbol) → Follows item_part (comma ∷ r)
 unfolding begins_choice choice_of
-comma_behind_item r = (tt, (refl, tt))
+comma_after_item r = (tt, (refl, tt))
 
 pub action_apart : IsApart action_part
 unfolding begins_text
 action_apart = (
   tt,
-  ((tt, record { by = λ x s r m h. rw m refl }), (mark_sign marks.Equals, (mark_sign marks.Comma, item_apart, has_item, comma_behind_item)), before_sign (λ r. (refl, tt))),
+  ((tt, record { by = λ x s r m h. rw m refl }), (mark_sign marks.Equals, (mark_sign marks.Comma, item_apart, has_item, comma_after_item)), before_sign (λ r. (refl, tt))),
   before_any (λ r. tt),
 )
 
@@ -337,7 +337,7 @@ unfolding begins_state begins_count after_join after_mark
 wait_end = ((refl, tt), (nothing_ends, (((refl, tt), (refl, tt)), (refl, tt), refl)))
 
 pub frequency_end : Follows frequency_part []
-unfolding after_mark is_mark next_operator operator_of behind_hz
+unfolding after_mark is_mark next_operator operator_of after_hz
 frequency_end = (refl, (nothing_ends, (refl, refl), refl))
 
 pub states_end : Follows some_states []

@@ -7,13 +7,13 @@ use Rattle.stapl_lexer.specs.declared.terminal.JoinWord.TheVariants as joins
 use Rattle.stapl_syntax.specs.Symbols.{Symbol, Plain, sign_of}
 use Rattle.stapl_syntax.specs.Trees.{ExprTree, ArrayTree, PartTree, ExportTree, BodyTree, note, action, procedure, data_block, end_data, crc, end_procedure, boolean, boolean_array, integer, integer_array, assign, assign_element, assign_array, assign_range, call, goto, if_then, for_loop, next, push, pop, print, export, exit, scan, stop, pad, state_list, wait_cycles, wait_usec, frequency}
 use Rattle.stapl_syntax.specs.Expressions.{left_square, right_round, right_square, operator, dots, IsExpr, IsUnary, IsPrimary, IsCell, IsTarget, IsArray, of_unary, negation, complement, negated, tighter, of_binary, of_primary, of_number, of_cell, of_scalar, of_element, of_brackets, of_abs, of_array, of_literal, of_target, of_whole, of_range, of_expr}
-use Rattle.stapl_syntax.specs.Parts.{Part, IsPart, Separated, hz, a_name, a_state, a_number, a_signed, a_bit, a_text, a_literal, a_check_word, a_choice, an_expr, an_array, a_cell, a_target, a_print_part, an_export, some_states, after, before, maybe_hz, both, maybe, either, listed, IsSigned, unsigned, minus, IsBit, zero_bit, one_bit, IsChoice, optional_item, recommended_item, IsPrintPart, of_string, of_value, of_character, IsExported, of_exported_value, of_exported_array, AreStates, one_state, more_states, more_behind_comma, equals, join, note_part, action_part, procedure_part, for_part, print_part, export_part, scan_part, pad_part, frequency_part}
+use Rattle.stapl_syntax.specs.Parts.{Part, IsPart, Separated, hz, a_name, a_state, a_number, a_signed, a_bit, a_text, a_literal, a_check_word, a_choice, an_expr, an_array, a_cell, a_target, a_print_part, an_export, some_states, after, before, maybe_hz, both, maybe, either, listed, IsSigned, unsigned, minus, IsBit, zero_bit, one_bit, IsChoice, optional_item, recommended_item, IsPrintPart, of_string, of_value, of_character, IsExported, of_exported_value, of_exported_array, AreStates, one_state, more_states, more_after_comma, equals, join, note_part, action_part, procedure_part, for_part, print_part, export_part, scan_part, pad_part, frequency_part}
 use Rattle.stapl_syntax.specs.Statements.{IsBody, IsLabelled}
-use Rattle.stapl_syntax.specs.Reasons.{begins_statement, is_assign_sign, behind_label, is_unknown, is_left_out, holds_left_out}
+use Rattle.stapl_syntax.specs.Reasons.{begins_statement, is_assign_sign, after_label, is_unknown, is_left_out, holds_left_out}
 use Rattle.stapl_grammar.specs.BodyReading.{boolean_part, integer_part, assign_part, wait_part}
 use Rattle.stapl_grammar.proofs.BodyComplete.{body_label}
 use Rattle.stapl_grammar.proofs.ListLaws.{IsSign}
-use Rattle.stapl_grammar.proofs.ReasonSteps.{behind_is}
+use Rattle.stapl_grammar.proofs.ReasonSteps.{after_is}
 use Rattle.stapl_grammar.proofs.PartLaws.{IsApart}
 use Rattle.stapl_grammar.proofs.ApartLaws.{note_apart, action_apart, procedure_apart, boolean_apart, integer_apart, assign_apart, for_apart, print_apart, export_apart, scan_apart, pad_apart, wait_apart, frequency_apart}
 
@@ -92,7 +92,7 @@ states_clean : {s : List Symbol} {ks : List ℕ} → AreStates s ks → IsClean 
 unfolding is_left_out
 states_clean one_state = refl
 states_clean (more_states m) = states_clean m
-states_clean (more_behind_comma m) = states_clean m
+states_clean (more_after_comma m) = states_clean m
 
 sign_clean : (t : Symbol) → IsSign t → is_left_out (sign_of t) ≡ false
 unfolding is_left_out
@@ -190,11 +190,11 @@ body_clean (wait_usec k e l) s m = headed _ (λ r. refl) refl wait_part wait_apa
 body_clean (frequency e) s m = headed _ (λ r. refl) refl frequency_part frequency_apart e s m
 
 -- where no label stands, nothing is after it
-unlabelled : (b : BodyTree) (s : List Symbol) → IsBody s b → behind_label s ≡ s
-unlabelled b s m = behind_is s ∙ ap (λ (x : Option (List ℕ) × List Symbol). x.1) (body_label b s m)
+unlabelled : (b : BodyTree) (s : List Symbol) → IsBody s b → after_label s ≡ s
+unlabelled b s m = after_is s ∙ ap (λ (x : Option (List ℕ) × List Symbol). x.1) (body_label b s m)
 
-pub labelled_clean : (s : List Symbol) (label : Option (List ℕ)) (b : BodyTree) → IsLabelled s label b → (is_unknown (behind_label s) ≡ false) × (holds_left_out s ≡ false)
-unfolding behind_label is_left_out
+pub labelled_clean : (s : List Symbol) (label : Option (List ℕ)) (b : BodyTree) → IsLabelled s label b → (is_unknown (after_label s) ≡ false) × (holds_left_out s ≡ false)
+unfolding after_label is_left_out
 labelled_clean s None b m =
     let k = body_clean b s m in
     (rw (unlabelled b s m) k.known, k.clean)

@@ -15,7 +15,7 @@ use Rattle.stapl_syntax.specs.Statements.{is_outer, is_unconditional, IsBody, Is
 use Rattle.stapl_grammar.specs.Looks.{after_mark, after_join, is_mark, mark_number, begins_anything}
 use Rattle.stapl_grammar.specs.Reading.{Reader, next_sign, name_at, name_of, next_operator, operator_of, expr}
 use Rattle.stapl_grammar.specs.PartReading.{part_at}
-use Rattle.stapl_grammar.specs.BodyReading.{mapped, outer_from, boolean_part, integer_part, inner_from, assign_part, assign_of, if_from, simple_word_from, wait_part, port_from, simple_from, simple_by, simple_in, simple_at, labelled_from, labelled_at, any_from, any_at, label_at, behind_label_at, statement_of}
+use Rattle.stapl_grammar.specs.BodyReading.{mapped, outer_from, boolean_part, integer_part, inner_from, assign_part, assign_of, if_from, simple_word_from, wait_part, port_from, simple_from, simple_by, simple_in, simple_at, labelled_from, labelled_at, any_from, any_at, label_at, after_label_at, statement_of}
 use Rattle.stapl_grammar.proofs.Tools.{by_step, some_is, by_test, after_mark_some, after_join_some, after_join_here}
 use Rattle.stapl_grammar.proofs.Steps.{bind_same}
 use Rattle.stapl_grammar.proofs.Complete.{shorter, expr_read}
@@ -164,25 +164,25 @@ label_shape : (s : List Symbol) → LabelShape (label_at s).0 s (label_at s).1
 unfolding label_at LabelShape
 label_shape s = go (name_at s) refl
   where
-    behind : (v : List ℕ × List Symbol) → s ≡ name v.0 ∷ v.1 → (p : Option (List Symbol)) → after_mark marks.Colon v.1 ≡ p → let l : Option (List ℕ) ×
+    after : (v : List ℕ × List Symbol) → s ≡ name v.0 ∷ v.1 → (p : Option (List Symbol)) → after_mark marks.Colon v.1 ≡ p → let l : Option (List ℕ) ×
         List Symbol = option_map_or (λ r. (Some v.0, r)) p (None, s) in LabelShape l.0 s l.1
-    behind v shape None e = refl
-    behind v shape (Some r) e = shape ∙ ap (λ (l : List Symbol). name v.0 ∷ l) (after_mark_some marks.Colon v.1 r e)
+    after v shape None e = refl
+    after v shape (Some r) e = shape ∙ ap (λ (l : List Symbol). name v.0 ∷ l) (after_mark_some marks.Colon v.1 r e)
 
     go : (q : Option (List ℕ × List Symbol)) → name_at s ≡ q → let l : Option (List ℕ) ×
         List Symbol = option_map_or (λ v. option_map_or (λ r. (Some v.0, r)) (after_mark marks.Colon v.1) (None, s)) q (None, s) in LabelShape l.0 s l.1
     go None e = refl
-    go (Some v) e = behind v (name_some s v e) (after_mark marks.Colon v.1) refl
+    go (Some v) e = after v (name_some s v e) (after_mark marks.Colon v.1) refl
 
 nothing_stands : (s : List Symbol) → begins_anything s ≡ false → s ≡ []
 nothing_stands [] e = refl
 nothing_stands (t ∷ s) e = absurd cc
 
 pub statement_sound : (s : List Symbol) (label : Option (List ℕ)) (b : BodyTree) → statement_of s ≡ Some (label, b) → IsLabelled s label b
-unfolding statement_of behind_label_at LabelShape
+unfolding statement_of after_label_at LabelShape
 statement_sound s label b e =
-    by_step (mapped (λ c. ((label_at s).0, c)) (behind_label_at (label_at s).0 (label_at s).1)) _ (label, b) e λ y y-is e1.
-    by_step (behind_label_at (label_at s).0 (label_at s).1) _ y y-is λ x x-is e2.
+    by_step (mapped (λ c. ((label_at s).0, c)) (after_label_at (label_at s).0 (label_at s).1)) _ (label, b) e λ y y-is e1.
+    by_step (after_label_at (label_at s).0 (label_at s).1) _ y y-is λ x x-is e2.
     let given : ◌≡◌ {A = (Option (List ℕ) × BodyTree) × List Symbol} (((label_at s).0, x.0), x.1) y = some_is (((label_at s).0, x.0), x.1) y e2 in
     by_test (begins_anything y.1) _ _ (label, b) e1
     (λ yes h. absurd cc)
@@ -191,7 +191,7 @@ statement_sound s label b e =
     let same : ◌≡◌ {A = Option (List ℕ) × BodyTree} ((label_at s).0, x.0) (label, b) = ap (λ (z : (Option (List ℕ) × BodyTree) × List Symbol). z.0) given ∙ some_is y.0 (label, b) h in
     subst (λ (z : Option (List ℕ) × BodyTree). IsLabelled s z.0 z.1) same (go (label_at s).0 (label_at s).1 (label_shape s) x x-is end))
   where
-    go : (l : Option (List ℕ)) (r : List Symbol) → LabelShape l s r → (x : BodyTree × List Symbol) → behind_label_at l r ≡ Some x → x.1 ≡ [] → IsLabelled s l x.0
+    go : (l : Option (List ℕ)) (r : List Symbol) → LabelShape l s r → (x : BodyTree × List Symbol) → after_label_at l r ≡ Some x → x.1 ≡ [] → IsLabelled s l x.0
     go None r shape x read end =
         let f = any_sound r x read in
         let whole : s ≡ f.taken = sym shape ∙ f.parts ∙ ap (λ (l : List Symbol). f.taken ++ l) end ∙ append-nil f.taken in
@@ -202,7 +202,7 @@ statement_sound s label b e =
         (r, shape, f.kind, subst (λ (l : List Symbol). IsBody l x.0) (sym whole) f.meant)
 
 pub statement_complete : (s : List Symbol) (label : Option (List ℕ)) (b : BodyTree) → IsLabelled s label b → statement_of s ≡ Some (label, b)
-unfolding statement_of behind_label_at label_at name_at name_of next_sign after_mark is_mark mark_number
+unfolding statement_of after_label_at label_at name_at name_of next_sign after_mark is_mark mark_number
 statement_complete s None b m =
     let read = read_any (is_outer b) (is_unconditional b) b s (body_complete b s m) in
     let none = no_label s (b, []) read in

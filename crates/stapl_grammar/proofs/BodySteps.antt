@@ -11,26 +11,26 @@ use Rattle.stapl_grammar.specs.Reading.{expr}
 use Rattle.stapl_grammar.specs.PartReading.{part_at}
 use Rattle.stapl_grammar.specs.BodyReading.{mapped, range_or_element_of, range_or_element_part, indexed_of, indexed_part, assign_of, assign_part}
 
-behind_first : (v : List ℕ) (first : ExprTree) (o : Option (((ExprTree × ArrayTree) ⊎ ExprTree) × List Symbol)) →
+after_first : (v : List ℕ) (first : ExprTree) (o : Option (((ExprTree × ArrayTree) ⊎ ExprTree) × List Symbol)) →
     mapped (indexed_of v) (mapped (λ x. inr x) (mapped (λ x. (first, x)) o)) ≡ mapped (range_or_element_of v first) o
-behind_first v first None = refl
-behind_first v first (Some x) = refl
+after_first v first None = refl
+after_first v first (Some x) = refl
 
 -- after a name, its bracket and an expression
 indexed_is : (v : List ℕ) (s : List Symbol) (first : ExprTree) (r : List Symbol) → after_mark marks.RightSquare s ≡ None → expr 10 s ≡ Some (first, r) →
     mapped (indexed_of v) (part_at indexed_part s) ≡ mapped (range_or_element_of v first) (part_at range_or_element_part r)
 unfolding part_at
-indexed_is v s first r none e = rw (none, e) (behind_first v first (part_at range_or_element_part r))
+indexed_is v s first r none e = rw (none, e) (after_first v first (part_at range_or_element_part r))
 
-behind_bracket : (v : List ℕ) (o : Option ((ArrayTree ⊎ (ExprTree × ((ExprTree × ArrayTree) ⊎ ExprTree))) × List Symbol)) → mapped (assign_of v) (mapped (λ x. inr x) o) ≡ mapped (indexed_of v) o
-behind_bracket v None = refl
-behind_bracket v (Some x) = refl
+after_bracket : (v : List ℕ) (o : Option ((ArrayTree ⊎ (ExprTree × ((ExprTree × ArrayTree) ⊎ ExprTree))) × List Symbol)) → mapped (assign_of v) (mapped (λ x. inr x) o) ≡ mapped (indexed_of v) o
+after_bracket v None = refl
+after_bracket v (Some x) = refl
 
 -- after a name and its bracket
 assign_is : (v : List ℕ) (s r : List Symbol) → after_mark marks.Equals s ≡ None → after_mark marks.LeftSquare s ≡ Some r →
     mapped (assign_of v) (part_at assign_part s) ≡ mapped (indexed_of v) (part_at indexed_part r)
 unfolding part_at
-assign_is v s r none e = rw (none, e) (behind_bracket v (part_at indexed_part r))
+assign_is v s r none e = rw (none, e) (after_bracket v (part_at indexed_part r))
 
 -- what was returned is what equal reading gives
 gives_same : {X Y : Type 0} (view : X → Y) (result : Result X Refused) (a b : Option Y) → a ≡ b → Gives view result b → Gives view result a

@@ -90,16 +90,16 @@ pub primary_by : Reader ExprTree
 primary_by s = next_sign s >>= λ g. primary_from (expr 10) g.0 g.1
 
 -- what a reader reads after a name
-unfoldable pub behind_name : {A : Type 0} → (List ℕ → Reader A) → Reader A
-behind_name read s = name_at s >>= λ v. read v.0 v.1
+unfoldable pub after_name : {A : Type 0} → (List ℕ → Reader A) → Reader A
+after_name read s = name_at s >>= λ v. read v.0 v.1
 
-cell_primary : {a : List Symbol} {e : ExprTree} → IsCell a e → (r : List Symbol) → primary_by (a ++ r) ≡ behind_name (named_by (expr 10)) (a ++ r)
-unfolding primary_by primary_from brackets_from function_from next_sign behind_name name_at name_of
+cell_primary : {a : List Symbol} {e : ExprTree} → IsCell a e → (r : List Symbol) → primary_by (a ++ r) ≡ after_name (named_by (expr 10)) (a ++ r)
+unfolding primary_by primary_from brackets_from function_from next_sign after_name name_at name_of
 cell_primary of_scalar r = refl
 cell_primary (of_element m) r = refl
 
-target_array : {a : List Symbol} {x : ArrayTree} → IsTarget a x → (r : List Symbol) → array_by (expr 10) (a ++ r) ≡ behind_name (target_by (expr 10)) (a ++ r)
-unfolding array_by array_from bool_from literal_at next_sign behind_name name_at name_of
+target_array : {a : List Symbol} {x : ArrayTree} → IsTarget a x → (r : List Symbol) → array_by (expr 10) (a ++ r) ≡ after_name (target_by (expr 10)) (a ++ r)
+unfolding array_by array_from bool_from literal_at next_sign after_name name_at name_of
 target_array of_whole r = refl
 target_array (of_range h l) r = refl
 
@@ -137,7 +137,7 @@ unfolding target_from range_by
 range_complete v a x s y r h l = rw (not_closing (a ++ (dots ∷ s)) (x, dots ∷ s) h, h, after_mark_here marks.Dots s, l)
 
 mutual
-  unfolding unary_by unary_of primary_by primary_from brackets_from function_from named_by array_by array_from bool_from literal_at next_sign name_at name_of behind_name
+  unfolding unary_by unary_of primary_by primary_from brackets_from function_from named_by array_by array_from bool_from literal_at next_sign name_at name_of after_name
       target_by target_from range_by after_mark is_mark mark_number
 
   pub expr_complete : {n : ℕ} {a : List Symbol} {e : ExprTree} → IsExpr n a e → (r : List Symbol) → Ends n r → expr n (a ++ r) ≡ climb n e r
@@ -169,12 +169,12 @@ mutual
       (whole_from s e marks.RightRound r (expr_complete m (right_round ∷ r) (ends_mark 10 marks.RightRound r refl))))
   primary_complete (of_array {s = s} {a = a} m) r h = rw (bracketed_complete (array_by (expr 10)) s r a (array_complete m (right_round ∷ r)))
 
-  pub cell_complete : {a : List Symbol} {e : ExprTree} → IsCell a e → (r : List Symbol) → after_mark marks.LeftSquare r ≡ None → behind_name (named_by (expr 10)) (a ++ r) ≡ Some (e, r)
+  pub cell_complete : {a : List Symbol} {e : ExprTree} → IsCell a e → (r : List Symbol) → after_mark marks.LeftSquare r ≡ None → after_name (named_by (expr 10)) (a ++ r) ≡ Some (e, r)
   cell_complete of_scalar r h = rw h
   cell_complete (of_element {s = s} {e = e} m) r h = rw (closed_complete marks.RightSquare (expr 10) s r e
       (whole_from s e marks.RightSquare r (expr_complete m (right_square ∷ r) (ends_mark 10 marks.RightSquare r refl))))
 
-  pub target_complete : {a : List Symbol} {x : ArrayTree} → IsTarget a x → (r : List Symbol) → behind_name (target_by (expr 10)) (a ++ r) ≡ Some (x, r)
+  pub target_complete : {a : List Symbol} {x : ArrayTree} → IsTarget a x → (r : List Symbol) → after_name (target_by (expr 10)) (a ++ r) ≡ Some (x, r)
   target_complete of_whole r = refl
   target_complete (of_range {v = v} {a = a} {b = b} {x = x} {y = y} h l) r =
       let s = (b ++ (right_square ∷ [])) ++ r in

@@ -7,7 +7,7 @@ use Rattle.stapl_lexer.proofs.ReasonLemmas.{one_list}
 use Rattle.stapl_syntax.specs.Symbols.{Symbol, symbols_of}
 use Rattle.stapl_syntax.specs.Trees.{BodyTree, StmtTree}
 use Rattle.stapl_syntax.specs.Statements.{Means, IsPieceStatement}
-use Rattle.stapl_syntax.specs.Reasons.{HasReason, in_tokens, unknown, left_out, not_in_grammar, behind_label, is_unknown, holds_left_out}
+use Rattle.stapl_syntax.specs.Reasons.{HasReason, in_tokens, unknown, left_out, not_in_grammar, after_label, is_unknown, holds_left_out}
 use Rattle.stapl_grammar.proofs.BodyClean.{labelled_clean}
 use Rattle.stapl_grammar.proofs.BodyComplete as complete
 
@@ -27,7 +27,7 @@ no_reason st is (in_tokens has) = is.are.faultless _ has
 no_reason {text = text} {piece = piece} st is (unknown tokens are e) =
     let clean = labelled_clean (symbols_of text is.tokens) st.label st.body is.means in
     let same = one_list text piece tokens is.tokens are is.are.good in
-    let e' = subst (λ (t : List Token). is_unknown (behind_label (symbols_of text t)) ≡ true) same e in
+    let e' = subst (λ (t : List Token). is_unknown (after_label (symbols_of text t)) ≡ true) same e in
     let f = clean.0 in cc
 no_reason {text = text} {piece = piece} st is (left_out tokens are e) =
     let clean = labelled_clean (symbols_of text is.tokens) st.label st.body is.means in

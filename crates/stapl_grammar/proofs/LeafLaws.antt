@@ -11,14 +11,14 @@ use Rattle.stapl_syntax.specs.declared.statement.ItemChoice.TheVariants as choic
 use Rattle.stapl_syntax.specs.Symbols.{Symbol, Plain, Text, Literal, CheckWord}
 use Rattle.stapl_syntax.specs.Trees.{ExprTree, ArrayTree, PartTree, string, value, character, ExportTree, exported_value, exported_array}
 use Rattle.stapl_syntax.specs.Expressions.{IsExpr, IsArray, IsTarget, IsCell, operator, mark, function, name, right_round}
-use Rattle.stapl_syntax.specs.Parts.{IsSigned, unsigned, minus, IsBit, zero_bit, one_bit, IsChoice, optional_item, recommended_item, IsPrintPart, of_string, of_value, of_character, IsExported, of_exported_value, of_exported_array, AreStates, one_state, more_states, more_behind_comma, comma}
+use Rattle.stapl_syntax.specs.Parts.{IsSigned, unsigned, minus, IsBit, zero_bit, one_bit, IsChoice, optional_item, recommended_item, IsPrintPart, of_string, of_value, of_character, IsExported, of_exported_value, of_exported_array, AreStates, one_state, more_states, more_after_comma, comma}
 use Rattle.stapl_grammar.specs.Looks.{after_mark, is_mark, mark_number, begins_text, begins_state, is_state, choice_of}
 use Rattle.stapl_grammar.specs.Reading.{next_sign, name_at, name_of, literal_at, operator_of, next_operator, brackets_from, function_from, primary_from, unary_of, unary_by, expr}
 use Rattle.stapl_grammar.specs.PartReading.{state_at, state_of, number_at, number_of, is_minus, after_minus, signed_at, bit_of, bit_at, text_at, check_word_at, choice_at, array_at, cell_at, target_at, is_character, after_character, print_part_at, export_at, more_states_at, states_at}
 use Rattle.stapl_grammar.proofs.Tools.{by_step, some_is, choice_some, by_test}
 use Rattle.stapl_grammar.proofs.Steps.{expr-is}
 use Rattle.stapl_grammar.proofs.Sound.{IsFront, expr_sound, named_sound, target_sound, array_sound, word_sound}
-use Rattle.stapl_grammar.proofs.Complete.{behind_name, cell_complete, target_complete, array_complete, bracketed_complete, expr_read, whole_read}
+use Rattle.stapl_grammar.proofs.Complete.{after_name, cell_complete, target_complete, array_complete, bracketed_complete, expr_read, whole_read}
 
 -- ---- one symbol
 
@@ -195,7 +195,7 @@ more_states_sound (Plain (signs.Mark marks.Comma) ∷ Plain (signs.State k) ∷ 
     subst (MoreStates (comma ∷ Plain (signs.State k) ∷ s)) (some_is (k ∷ z.0, z.1) y e1) (record {
       taken = comma ∷ Plain (signs.State k) ∷ f.taken;
       parts = ap (λ (l : List Symbol). comma ∷ Plain (signs.State k) ∷ l) f.parts;
-      meant = λ j. more_behind_comma (f.meant k);
+      meant = λ j. more_after_comma (f.meant k);
     })
 more_states_sound (Plain (signs.Mark marks.Comma) ∷ s) y e = absurd cc
 more_states_sound s y e = none_more s y e
@@ -216,19 +216,19 @@ comma_more : {s : List Symbol} {ks : List ℕ} → AreStates s ks → (r : List 
 unfolding more_states_at
 comma_more one_state r = refl
 comma_more (more_states m) r = refl
-comma_more (more_behind_comma m) r = refl
+comma_more (more_after_comma m) r = refl
 
 more_complete : {s : List Symbol} {ks : List ℕ} → AreStates s ks → (r : List Symbol) → more_states_at r ≡ Some ([], r) → more_states_at (s ++ r) ≡ Some (ks, r)
 unfolding more_states_at
 more_complete one_state r h = rw h refl
 more_complete (more_states m) r h = rw (more_complete m r h) refl
-more_complete (more_behind_comma m) r h = rw (comma_more m r, more_complete m r h) refl
+more_complete (more_after_comma m) r h = rw (comma_more m r, more_complete m r h) refl
 
 pub states_complete : {s : List Symbol} {ks : List ℕ} → AreStates s ks → (r : List Symbol) → more_states_at r ≡ Some ([], r) → states_at (s ++ r) ≡ Some (ks, r)
 unfolding states_at state_at state_of next_sign
 states_complete one_state r h = rw h refl
 states_complete (more_states m) r h = rw (more_complete m r h) refl
-states_complete (more_behind_comma m) r h = rw (comma_more m r, more_complete m r h) refl
+states_complete (more_after_comma m) r h = rw (comma_more m r, more_complete m r h) refl
 
 -- ---- what is the part is read
 
@@ -248,11 +248,11 @@ bit_complete zero_bit r = refl
 bit_complete one_bit r = refl
 
 pub cell_part_complete : {s : List Symbol} {e : ExprTree} → IsCell s e → (r : List Symbol) → after_mark marks.LeftSquare r ≡ None → cell_at (s ++ r) ≡ Some (e, r)
-unfolding cell_at behind_name
+unfolding cell_at after_name
 cell_part_complete m r h = cell_complete m r h
 
 pub target_part_complete : {s : List Symbol} {a : ArrayTree} → IsTarget s a → (r : List Symbol) → target_at (s ++ r) ≡ Some (a, r)
-unfolding target_at behind_name
+unfolding target_at after_name
 target_part_complete m r = target_complete m r
 
 pub array_part_complete : {s : List Symbol} {a : ArrayTree} → IsArray s a → (r : List Symbol) → array_at (s ++ r) ≡ Some (a, r)

@@ -113,12 +113,12 @@ comma_none [] e = refl
 comma_none (Plain (signs.State k) ∷ r) e = absurd cc
 comma_none (t ∷ r) e = refl
 
-pub state_behind_comma : (s r : List Symbol) (k : ℕ) (u : List Symbol) → after_mark marks.Comma s ≡ Some r → state_at r ≡ Some (k, u) → more_states_at s ≡ with_front (k ∷ []) (more_states_at u)
-state_behind_comma s r k u h e = rw (after_mark_some marks.Comma s r h) (comma_some r k u e)
+pub state_after_comma : (s r : List Symbol) (k : ℕ) (u : List Symbol) → after_mark marks.Comma s ≡ Some r → state_at r ≡ Some (k, u) → more_states_at s ≡ with_front (k ∷ []) (more_states_at u)
+state_after_comma s r k u h e = rw (after_mark_some marks.Comma s r h) (comma_some r k u e)
 
-pub state_behind_comma_not : (s r : List Symbol) (e : Refused) → after_mark marks.Comma s ≡ Some r → Fails e (state_at r) → Fails e (more_states_at s)
-state_behind_comma_not s r Memory h e = tt
-state_behind_comma_not s r Syntax h e = rw (after_mark_some marks.Comma s r h) (comma_none r e)
+pub state_after_comma_not : (s r : List Symbol) (e : Refused) → after_mark marks.Comma s ≡ Some r → Fails e (state_at r) → Fails e (more_states_at s)
+state_after_comma_not s r Memory h e = tt
+state_after_comma_not s r Syntax h e = rw (after_mark_some marks.Comma s r h) (comma_none r e)
 
 pub state_next : (s : List Symbol) (k : ℕ) (u : List Symbol) → state_at s ≡ Some (k, u) → more_states_at s ≡ with_front (k ∷ []) (more_states_at u)
 unfolding more_states_at

@@ -15,7 +15,7 @@ use Rattle.stapl_syntax.specs.declared.statement.Stmt.{Stmt}
 use Rattle.stapl_syntax.specs.Symbols.{Symbol, symbols_of}
 use Rattle.stapl_syntax.specs.Trees.{BodyTree, StmtTree, stmt_tree}
 use Rattle.stapl_syntax.specs.Statements.{IsLabelled, Means, IsPieceStatement}
-use Rattle.stapl_syntax.specs.Reasons.{behind_label, is_unknown, holds_left_out, HasReason, in_tokens, unknown, left_out, not_in_grammar, SmallestReason}
+use Rattle.stapl_syntax.specs.Reasons.{after_label, is_unknown, holds_left_out, HasReason, in_tokens, unknown, left_out, not_in_grammar, SmallestReason}
 use Rattle.stapl_grammar.specs.declared.parsing.ParseRefused.{ParseRefused}
 use Rattle.stapl_grammar.specs.declared.parsing.ParseRefused.TheVariants.{Because}
 use Rattle.stapl_grammar.specs.Seen.{seen, seen_as}
@@ -46,20 +46,20 @@ parsed_ok text piece tokens (Err e) are answer = tt
 -- the numbers of what the parser answers, by what it found
 reason_below : (s : List Symbol) → reason_number (reason_of s) ≤ 11
 unfolding reason_of
-reason_below s = by (is_unknown (behind_label s)) (holds_left_out s)
+reason_below s = by (is_unknown (after_label s)) (holds_left_out s)
   where
     by : (a b : Bool) → reason_number (if a then reasons.UnknownStatement else if b then reasons.Unsupported else reasons.Syntax) ≤ 11
     by true b = omega arith
     by false true = omega arith
     by false false = omega arith
 
-reason_unknown : (s : List Symbol) → is_unknown (behind_label s) ≡ true → reason_number (reason_of s) ≤ 9
+reason_unknown : (s : List Symbol) → is_unknown (after_label s) ≡ true → reason_number (reason_of s) ≤ 9
 unfolding reason_of
 reason_unknown s e = rw e (omega arith)
 
 reason_left_out : (s : List Symbol) → holds_left_out s ≡ true → reason_number (reason_of s) ≤ 10
 unfolding reason_of
-reason_left_out s e = rw e (by (is_unknown (behind_label s)))
+reason_left_out s e = rw e (by (is_unknown (after_label s)))
   where
     by : (a : Bool) → reason_number (if a then reasons.UnknownStatement else reasons.Unsupported) ≤ 10
     by true = omega arith
@@ -96,7 +96,7 @@ module _ (text : List ℕ) (piece : Piece) (list : List Token) (are : AreTokens 
   least_in_grammar other (in_tokens has) = absurd (are.faultless other has)
   least_in_grammar _ (unknown tokens good e) =
       reason_unknown (symbols_of text list)
-      (subst (λ (t : List Token). is_unknown (behind_label (symbols_of text t)) ≡ true) (one_list text piece tokens list good are.good) e)
+      (subst (λ (t : List Token). is_unknown (after_label (symbols_of text t)) ≡ true) (one_list text piece tokens list good are.good) e)
   least_in_grammar _ (left_out tokens good e) =
       reason_left_out (symbols_of text list)
       (subst (λ (t : List Token). holds_left_out (symbols_of text t) ≡ true) (one_list text piece tokens list good are.good) e)
@@ -104,9 +104,9 @@ module _ (text : List ℕ) (piece : Piece) (list : List Token) (are : AreTokens 
 
   holds_in_grammar : HasReason text piece (reason_of (symbols_of text list))
   unfolding reason_of
-  holds_in_grammar = by (is_unknown (behind_label (symbols_of text list))) (holds_left_out (symbols_of text list)) refl refl
+  holds_in_grammar = by (is_unknown (after_label (symbols_of text list))) (holds_left_out (symbols_of text list)) refl refl
     where
-      by : (a b : Bool) → is_unknown (behind_label (symbols_of text list)) ≡ a → holds_left_out (symbols_of text list) ≡ b →
+      by : (a b : Bool) → is_unknown (after_label (symbols_of text list)) ≡ a → holds_left_out (symbols_of text list) ≡ b →
           HasReason text piece (if a then reasons.UnknownStatement else if b then reasons.Unsupported else reasons.Syntax)
       by true b e f = unknown list are.good e
       by false true e f = left_out list are.good f

@@ -12,7 +12,7 @@ use Rattle.stapl_syntax.specs.Expressions.{mark, name}
 use Rattle.stapl_syntax.specs.Parts.{join, Part, IsPart, hz, a_name, a_state, a_number, a_signed, a_bit, a_text, a_literal, a_check_word, a_choice, an_expr, an_array, a_cell, a_target, a_print_part, an_export, some_states, after, before, maybe_hz, both, maybe, either, listed}
 use Rattle.stapl_grammar.specs.Looks.{after_mark, after_symbol, begins}
 use Rattle.stapl_grammar.specs.Reading.{next_sign, name_at, name_of, literal_at, next_operator}
-use Rattle.stapl_grammar.specs.PartReading.{state_at, state_of, number_at, number_of, text_at, check_word_at, more_states_at, is_hz, behind_hz, part_at}
+use Rattle.stapl_grammar.specs.PartReading.{state_at, state_of, number_at, number_of, text_at, check_word_at, more_states_at, is_hz, after_hz, part_at}
 use Rattle.stapl_grammar.proofs.Tools.{by_step, some_is, by_test, after_mark_here, after_join_here}
 use Rattle.stapl_grammar.proofs.Steps.{Shortens}
 use Rattle.stapl_grammar.proofs.Complete.{expr_read}
@@ -25,7 +25,7 @@ use Rattle.stapl_grammar.proofs.ListLaws.{after_symbol_some, IsSign, list_sound,
 -- after HZ
 record BehindHz (s : List Symbol) : Type 0 where
   taken : List Symbol
-  parts : s ≡ taken ++ behind_hz s
+  parts : s ≡ taken ++ after_hz s
   meant : (taken ≡ []) ⊎ (taken ≡ hz ∷ [])
 
 hz_cond : (t : Symbol) (s : List Symbol) (test : Bool) → is_hz (sign_of t) ≡ test → (t ∷ s ≡ cond test (hz ∷ []) [] ++ cond test s (t ∷ s))
@@ -38,8 +38,8 @@ hz_taken : (t : Symbol) (s : List Symbol) (test : Bool) → is_hz (sign_of t) �
 hz_taken t s true e = (hz ∷ [], hz_cond t s true e, inr refl)
 hz_taken t s false e = ([], refl, inl refl)
 
-hz_sound : (s : List Symbol) → (taken : List Symbol) × (s ≡ taken ++ behind_hz s) × ((taken ≡ []) ⊎ (taken ≡ hz ∷ []))
-unfolding behind_hz
+hz_sound : (s : List Symbol) → (taken : List Symbol) × (s ≡ taken ++ after_hz s) × ((taken ≡ []) ⊎ (taken ≡ hz ∷ []))
+unfolding after_hz
 hz_sound [] = ([], refl, inl refl)
 hz_sound (t ∷ s) = hz_taken t s (is_hz (sign_of t)) refl
 
@@ -82,9 +82,9 @@ part_sound (maybe_hz p) s x e =
     by_step (part_at p s) _ x e λ y y-is e1.
     let f = part_sound p s y y-is in
     let h = hz_sound y.1 in
-    subst (Begins (maybe_hz p) s) (some_is (y.0, behind_hz y.1) x e1) (record {
+    subst (Begins (maybe_hz p) s) (some_is (y.0, after_hz y.1) x e1) (record {
       taken = f.taken ++ h.0;
-      parts = f.parts ∙ ap (λ (l : List Symbol). f.taken ++ l) h.1 ∙ sym (append_assoc f.taken h.0 (behind_hz y.1));
+      parts = f.parts ∙ ap (λ (l : List Symbol). f.taken ++ l) h.1 ∙ sym (append_assoc f.taken h.0 (after_hz y.1));
       meant = elim h.2 as (λ _. IsPart p y.0 (f.taken ++ h.0) ⊎ ((r : List Symbol) × (f.taken ++ h.0 ≡ r ++ (hz ∷ [])) × IsPart p y.0 r)) [
         | inl none ↦ inl (rw (none, append-nil) f.meant)
         | inr some ↦ inr (f.taken, ap (λ (l : List Symbol). f.taken ++ l) some, f.meant)
@@ -132,7 +132,7 @@ Follows an_export r = (next_operator 10 r ≡ None) × (after_mark marks.LeftSqu
 Follows some_states r = more_states_at r ≡ Some ([], r)
 Follows (after t p) r = Follows p r
 Follows (before p t) r = Unit {0}
-Follows (maybe_hz p) r = Follows p r × Follows p (hz ∷ r) × (behind_hz r ≡ r)
+Follows (maybe_hz p) r = Follows p r × Follows p (hz ∷ r) × (after_hz r ≡ r)
 Follows (both p q) r = Follows p r × Follows q r
 Follows (maybe p) r = (begins p r ≡ false) × Follows p r
 Follows (either p q) r = Follows p r × Follows q r × (begins p r ≡ false)
@@ -169,7 +169,7 @@ part_shortens p some s x e =
 
 -- looks may be true before they are looked at
 pub part_complete : {A : Type 0} (p : Part A) → IsApart p → (x : A) (s : List Symbol) → IsPart p x s → (r : List Symbol) → Follows p r → part_at p (s ++ r) ≡ Some (x, r)
-unfolding part_at name_at name_of state_at state_of number_at number_of text_at literal_at check_word_at next_sign behind_hz is_hz
+unfolding part_at name_at name_of state_at state_of number_at number_of text_at literal_at check_word_at next_sign after_hz is_hz
 part_complete a_name apart x s m r f = rw m
 part_complete a_state apart x s m r f = rw m
 part_complete a_number apart x s m r f = rw m

@@ -13,7 +13,7 @@ use Rattle.stapl_syntax.specs.declared.signs.Sign.{Sign}
 use Rattle.stapl_syntax.specs.Expressions.{level_of}
 use Rattle.stapl_syntax.specs.Symbols.{Symbol, sign_of}
 use Rattle.stapl_grammar.specs.Looks.{is_mark, after_mark, is_join, after_join}
-use Rattle.stapl_grammar.specs.PartReading.{is_minus, after_minus, is_character, after_character, is_hz, behind_hz}
+use Rattle.stapl_grammar.specs.PartReading.{is_minus, after_minus, is_character, after_character, is_hz, after_hz}
 use Rattle.stapl_grammar.specs.Reading.{next_sign, operator_of, next_operator}
 use Rattle.stapl_grammar.specs.Seen.{seen, seen_as, first_seen}
 
@@ -94,6 +94,6 @@ unfolding after_character
 character_read text rest g s e v h = let i = sign_is text rest g s e v in rw (i.1, i.2, ← h)
 
 pub hz_passed : (text : List ℕ) (rest : List Token) (g : Sign) (s : List Symbol) → Some g ≡ first_seen s → seen text rest ≡ s →
-    true ≡ is_hz g → seen text (after_first rest) ≡ behind_hz s
-unfolding behind_hz
+    true ≡ is_hz g → seen text (after_first rest) ≡ after_hz s
+unfolding after_hz
 hz_passed text rest g s e v h = let i = sign_is text rest g s e v in rw (i.1, i.2, ← h)

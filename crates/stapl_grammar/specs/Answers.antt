@@ -8,14 +8,14 @@ use Rattle.stapl_syntax.specs.declared.statement.Stmt.{Stmt}
 use Rattle.stapl_syntax.specs.Symbols.{Symbol}
 use Rattle.stapl_syntax.specs.Trees.{BodyTree, body_tree}
 use Rattle.stapl_syntax.specs.Statements.{IsLabelled}
-use Rattle.stapl_syntax.specs.Reasons.{behind_label, is_unknown, holds_left_out}
+use Rattle.stapl_syntax.specs.Reasons.{after_label, is_unknown, holds_left_out}
 use Rattle.stapl_grammar.specs.declared.parsing.ParseRefused.{ParseRefused}
 use Rattle.stapl_grammar.specs.declared.parsing.ParseRefused.TheVariants.{Because, Memory}
 
 -- what the parser answers for symbols that are no statement
 unfoldable pub reason_of : List Symbol → Reason
 reason_of s =
-    if is_unknown (behind_label s) then reasons.UnknownStatement
+    if is_unknown (after_label s) then reasons.UnknownStatement
     else if holds_left_out s then reasons.Unsupported
     else reasons.Syntax
 

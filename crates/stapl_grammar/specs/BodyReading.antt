@@ -207,13 +207,13 @@ unfoldable pub label_at : List Symbol → Option (List ℕ) × List Symbol
 label_at s =
     option_map_or (λ v. option_map_or (λ r. (Some v.0, r)) (after_mark marks.Colon v.1) (None, s)) (name_at s) (None, s)
 
-unfoldable pub behind_label_at : Option (List ℕ) → Reader BodyTree
-behind_label_at None s = any_at s
-behind_label_at (Some v) s = labelled_at s
+unfoldable pub after_label_at : Option (List ℕ) → Reader BodyTree
+after_label_at None s = any_at s
+after_label_at (Some v) s = labelled_at s
 
 -- the same, with the label
 abbrev pub with_label_at : Option (List ℕ) → Reader (Option (List ℕ) × BodyTree)
-with_label_at label s = mapped (λ b. (label, b)) (behind_label_at label s)
+with_label_at label s = mapped (λ b. (label, b)) (after_label_at label s)
 
 -- all of the symbols
 unfoldable pub statement_of : List Symbol → Option (Option (List ℕ) × BodyTree)

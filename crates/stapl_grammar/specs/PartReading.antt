@@ -144,9 +144,9 @@ is_hz (signs.Name v) = bytes_eq v (codes "HZ")
 is_hz _ = false
 
 -- the symbols after the word HZ, where they begin with it, or all of them
-unfoldable pub behind_hz : List Symbol → List Symbol
-behind_hz [] = []
-behind_hz (t ∷ s) = if is_hz (sign_of t) then s else (t ∷ s)
+unfoldable pub after_hz : List Symbol → List Symbol
+after_hz [] = []
+after_hz (t ∷ s) = if is_hz (sign_of t) then s else (t ∷ s)
 
 unfoldable pub part_at : {A : Type 0} → Part A → Reader A
 part_at a_name s = name_at s
@@ -170,7 +170,7 @@ part_at (before p t) s = do
   x ← part_at p s
   rest ← after_symbol t x.1
   Some (x.0, rest)
-part_at (maybe_hz p) s = part_at p s >>= λ x. Some (x.0, behind_hz x.1)
+part_at (maybe_hz p) s = part_at p s >>= λ x. Some (x.0, after_hz x.1)
 part_at (both p q) s = do
   x ← part_at p s
   y ← part_at q x.1

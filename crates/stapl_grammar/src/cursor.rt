@@ -40,7 +40,7 @@ impl<'a> Cursor<'a> {
     ghost use Rattle.stapl_grammar.specs.Given.{Gives};
     ghost use Rattle.stapl_grammar.specs.Looks.{after_mark, after_join, after_comma_join, begins_text, begins_state, begins_count, begins_choice, begins_anything};
     ghost use Rattle.stapl_grammar.specs.Reading.{next_sign, next_operator, name_at, literal_at};
-    ghost use Rattle.stapl_grammar.specs.PartReading.{text_at, check_word_at, after_minus, after_character, behind_hz};
+    ghost use Rattle.stapl_grammar.specs.PartReading.{text_at, check_word_at, after_minus, after_character, after_hz};
     ghost use Rattle.stapl_grammar.specs.Seen.{seen, first_seen};
 
     // All of these tokens of a text.
@@ -174,9 +174,9 @@ impl<'a> Cursor<'a> {
     }
 
     // Steps past the word HZ, where it stands first.
-    #[tactic(auto, unfolding(crate::specs::Seen::seen, crate::specs::PartReading::behind_hz))]
+    #[tactic(auto, unfolding(crate::specs::Seen::seen, crate::specs::PartReading::after_hz))]
     pub(crate) fn pass_hz(&mut self)
-        ensures { self.new ≡ behind_hz self.old }
+        ensures { self.new ≡ after_hz self.old }
     {
         if let Some(first) = self.peek()
             && is_hz(first)

@@ -5,7 +5,7 @@ ghost use Rattle.stapl_lexer.specs.declared.reason.Reason.{Reason};
 ghost use Rattle.stapl_syntax.specs.Symbols.{Symbol};
 ghost use Rattle.stapl_syntax.specs.Trees.{StmtTree};
 ghost use Rattle.stapl_syntax.specs.Statements.{Means, IsPieceStatement};
-ghost use Rattle.stapl_syntax.specs.Reasons.{HasReason, SmallestReason, behind_label, is_unknown, holds_left_out};
+ghost use Rattle.stapl_syntax.specs.Reasons.{HasReason, SmallestReason, after_label, is_unknown, holds_left_out};
 
 /// Symbols mean at most one statement.
 pub fn one_statement()
@@ -20,7 +20,7 @@ pub fn a_piece_is_one_statement()
 /// Symbols that mean a statement begin as a statement, and hold no word that the profile leaves out. So if one of these
 /// two reasons holds, the piece is not in the grammar.
 pub fn a_statement_is_known_and_supported()
-    ensures known { (s : List Symbol) (statement : StmtTree) → Means s statement → is_unknown (behind_label s) ≡ false }
+    ensures known { (s : List Symbol) (statement : StmtTree) → Means s statement → is_unknown (after_label s) ≡ false }
     ensures supported { (s : List Symbol) (statement : StmtTree) → Means s statement → holds_left_out s ≡ false }
 {}
 

@@ -96,7 +96,7 @@ impl<'a> Cursor<'a> {
     }
 
     // The next state, after a comma or not; none where neither a comma nor a state stands first.
-    #[tactic(auto, using(crate::proofs::ListSteps::state_next, crate::proofs::ListSteps::state_next_not, crate::proofs::ListSteps::state_behind_comma, crate::proofs::ListSteps::state_behind_comma_not, crate::proofs::ListSteps::state_is_done))]
+    #[tactic(auto, using(crate::proofs::ListSteps::state_next, crate::proofs::ListSteps::state_next_not, crate::proofs::ListSteps::state_after_comma, crate::proofs::ListSteps::state_after_comma_not, crate::proofs::ListSteps::state_is_done))]
     fn next_state(&mut self) -> Result<Option<u8>, Refused>
         ensures { StepsOn result self.old self.new }
     {

@@ -6,7 +6,7 @@ use stapl_syntax::Sign;
 
 impl<'a> Cursor<'a> {
     ghost use Rattle.std.specs.Prelude.{◌≡◌};
-    ghost use Rattle.stapl_syntax.specs.Reasons.{begins_statement, behind_label, is_unknown, holds_left_out};
+    ghost use Rattle.stapl_syntax.specs.Reasons.{begins_statement, after_label, is_unknown, holds_left_out};
     ghost use Rattle.stapl_grammar.specs.Answers.{reason_of};
 
     // Whether a statement begins with this sign, with the rest after it.
@@ -27,9 +27,9 @@ impl<'a> Cursor<'a> {
     }
 
     // Whether something stands after the label, and it begins no statement.
-    #[tactic(auto, using(crate::proofs::ReasonSteps::behind_is, crate::proofs::ReasonSteps::unknown_is, crate::proofs::ReasonSteps::unknown_nothing))]
+    #[tactic(auto, using(crate::proofs::ReasonSteps::after_is, crate::proofs::ReasonSteps::unknown_is, crate::proofs::ReasonSteps::unknown_nothing))]
     fn is_unknown(&self) -> bool
-        ensures { result ≡ is_unknown (behind_label self.now) }
+        ensures { result ≡ is_unknown (after_label self.now) }
     {
         let mut ahead = self.ahead();
         let _ = ahead.label();
@@ -40,7 +40,7 @@ impl<'a> Cursor<'a> {
     }
 
     // Whether a word stands there that this profile leaves out.
-    #[tactic(auto, using(crate::proofs::ReasonSteps::left_out_here, crate::proofs::ReasonSteps::left_out_behind, crate::proofs::ReasonSteps::left_out_nothing))]
+    #[tactic(auto, using(crate::proofs::ReasonSteps::left_out_here, crate::proofs::ReasonSteps::left_out_after, crate::proofs::ReasonSteps::left_out_nothing))]
     fn holds_left_out(&self) -> bool
         ensures { result ≡ holds_left_out self.now }
     {

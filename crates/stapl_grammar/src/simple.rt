@@ -163,7 +163,7 @@ impl<'a> Cursor<'a> {
     // A statement after its first sign.
     #[cycle(statements)]
     #[tactic(auto, unfolding(crate::specs::BodyReading::simple_from))]
-    pub(crate) fn simple_behind(&mut self, alloc: Global, first: Sign) -> Result<Body, Refused>
+    pub(crate) fn simple_after(&mut self, alloc: Global, first: Sign) -> Result<Body, Refused>
         ensures { Gives (λ b. (body_tree b, self.new)) result (simple_from simple_at first self.old) }
     {
         match first {
@@ -184,7 +184,7 @@ impl<'a> Cursor<'a> {
         let Some(first) = self.next() else {
             return Err(Refused::Syntax);
         };
-        self.simple_behind(alloc, first)
+        self.simple_after(alloc, first)
     }
 
     // The same, after a pointer.

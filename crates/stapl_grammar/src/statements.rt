@@ -15,12 +15,12 @@ impl<'a> Cursor<'a> {
 
     // A statement that may bear a label, after its first sign.
     #[tactic(auto, unfolding(crate::specs::BodyReading::labelled_from))]
-    fn labelled_behind(&mut self, alloc: Global, first: Sign) -> Result<Body, Refused>
+    fn labelled_after(&mut self, alloc: Global, first: Sign) -> Result<Body, Refused>
         ensures { Gives (λ b. (body_tree b, self.new)) result (labelled_from first self.old) }
     {
         match first {
             Sign::Inner(word) => self.inner_statement(alloc, word),
-            _ => self.simple_behind(alloc, first),
+            _ => self.simple_after(alloc, first),
         }
     }
 
@@ -31,17 +31,17 @@ impl<'a> Cursor<'a> {
         let Some(first) = self.next() else {
             return Err(Refused::Syntax);
         };
-        self.labelled_behind(alloc, first)
+        self.labelled_after(alloc, first)
     }
 
     // A statement without a label, after its first sign.
     #[tactic(auto, unfolding(crate::specs::BodyReading::any_from))]
-    fn any_behind(&mut self, alloc: Global, first: Sign) -> Result<Body, Refused>
+    fn any_after(&mut self, alloc: Global, first: Sign) -> Result<Body, Refused>
         ensures { Gives (λ b. (body_tree b, self.new)) result (any_from first self.old) }
     {
         match first {
             Sign::Outer(word) => self.outer_statement(alloc, word),
-            _ => self.labelled_behind(alloc, first),
+            _ => self.labelled_after(alloc, first),
         }
     }
 
@@ -52,7 +52,7 @@ impl<'a> Cursor<'a> {
         let Some(first) = self.next() else {
             return Err(Refused::Syntax);
         };
-        self.any_behind(alloc, first)
+        self.any_after(alloc, first)
     }
 
     // The label that stands first, and steps past it and its colon.
@@ -76,7 +76,7 @@ impl<'a> Cursor<'a> {
     }
 
     // The statement with this label, after it, or with none.
-    #[tactic(auto, unfolding(crate::specs::BodyReading::behind_label_at))]
+    #[tactic(auto, unfolding(crate::specs::BodyReading::after_label_at))]
     fn with_label(&mut self, alloc: Global, label: Option<Name>) -> Result<Stmt, Refused>
         ensures { Gives (λ st. ((option_map box_value st.label, body_tree st.body), self.new)) result (with_label_at label self.old) }
     {

@@ -222,7 +222,7 @@ impl<'a> Cursor<'a> {
         let Some(first) = self.next() else {
             return Err(Refused::Syntax);
         };
-        self.array_behind(alloc, first)
+        self.array_after(alloc, first)
     }
 
     // An array, after a pointer.
@@ -238,7 +238,7 @@ impl<'a> Cursor<'a> {
     // An array that begins with this sign, and is no literal.
     #[cycle(terms)]
     #[tactic(auto, unfolding(crate::specs::Reading::array_from))]
-    fn array_behind(&mut self, alloc: Global, first: Sign) -> Result<ArrayExpr, Refused>
+    fn array_after(&mut self, alloc: Global, first: Sign) -> Result<ArrayExpr, Refused>
         ensures read { Gives (λ a. (array_tree a, self.new)) result (array_from (expr 10) first self.old) }
         ensures shorter { OnOk result (length self.new ≤ length self.old) }
     {

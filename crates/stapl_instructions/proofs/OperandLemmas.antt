@@ -10,8 +10,8 @@ use Rattle.stapl_code.specs.declared.raw.CodeLists.{CodeLists}
 use Rattle.stapl_code.specs.Depth.{depth_of}
 use Rattle.stapl_code.specs.Machine.{Falls, acted}
 use Rattle.stapl_code.specs.Safe.{entries_of, constants_of}
-use Rattle.stapl_code.specs.Rooms.{count_behind, HoldWithin, LeavesAtMost}
-use Rattle.stapl_code.proofs.RoomLemmas.{fewer_hold, room_for, hold_behind}
+use Rattle.stapl_code.specs.Rooms.{count_after, HoldWithin, LeavesAtMost}
+use Rattle.stapl_code.proofs.RoomLemmas.{fewer_hold, room_for, hold_after}
 use Rattle.stapl_code.proofs.StepCounts.{step_leaves}
 use Rattle.machine_memory.specs.declared.memory.Workspace.{Workspace}
 use Rattle.machine_memory.specs.declared.effects.Made.{Made}
@@ -44,16 +44,16 @@ module _ (code : CodeLists) (i : Instr) (to : Option ℕ) (chosen : List ℕ) (w
   step_within (made.Over ending) h = tt
 
 -- what a step leaves, counted
-leaves : (code : CodeLists) (here : ℕ) (i : Instr) (chosen : List ℕ) (old : Workspace) → LeavesAtMost (step_of code here i chosen old) (count_behind i (length old.operands.items))
+leaves : (code : CodeLists) (here : ℕ) (i : Instr) (chosen : List ℕ) (old : Workspace) → LeavesAtMost (step_of code here i chosen old) (count_after i (length old.operands.items))
 leaves code here i chosen old =
-    subst (λ n. LeavesAtMost (step_of code here i chosen old) (count_behind i n)) (length-reverse old.operands.items)
+    subst (λ n. LeavesAtMost (step_of code here i chosen old) (count_after i n)) (length-reverse old.operands.items)
     (step_leaves (entries_of code.procedures) (constants_of code) here i (operands_of old) (state_of chosen old))
 
 -- an instruction made this, which has room where the count has
 pub made_within : (code : CodeLists) (here : ℕ) (i : Instr) (to : Option ℕ) (chosen : List ℕ) (old work : Workspace) (m : Made) →
-    step_of code here i chosen old ≡ stepped code i to chosen m work → IsWithin (count_behind i (length old.operands.items)) m work
+    step_of code here i chosen old ≡ stepped code i to chosen m work → IsWithin (count_after i (length old.operands.items)) m work
 made_within code here i to chosen old work m e =
-    let n = count_behind i (length old.operands.items) in
+    let n = count_after i (length old.operands.items) in
     step_within code i to chosen work n m (subst (λ st. LeavesAtMost st n) e (leaves code here i chosen old))
 
 pub more_within : (a b : ℕ) (m : Made) (work : Workspace) → a ≤ b → IsWithin a m work → IsWithin b m work
@@ -70,9 +70,9 @@ more_within a b (made.Over ending) work le h = tt
 
 -- an instruction that was tried went on to the one after it
 pub tried_leaves : (code : CodeLists) (here : ℕ) (i : Instr) (chosen : List ℕ) (old new : Workspace) →
-    step_of code here i chosen old ≡ Falls (operands_of new) (state_of chosen new) → length new.operands.items ≤ count_behind i (length old.operands.items)
+    step_of code here i chosen old ≡ Falls (operands_of new) (state_of chosen new) → length new.operands.items ≤ count_after i (length old.operands.items)
 tried_leaves code here i chosen old new e =
-    let n = count_behind i (length old.operands.items) in
+    let n = count_after i (length old.operands.items) in
     let few : length (operands_of new) ≤ n = subst (λ st. LeavesAtMost st n) e (leaves code here i chosen old) in
     omega (arith, few, length-reverse new.operands.items)
 
@@ -93,19 +93,19 @@ none_hold code i work has none = subst (λ (ops : List Value). HoldWithin (depth
 
 -- instruction i of a code, with operands that have room from there on
 module _ (code : CodeLists) (i : ℕ) (x : Instr) (inside : i < length code.instrs) (is : x ≡ get_or code.instrs i x) (old : Workspace) (holds : HoldsFrom code i old) where
-  behind_it : HoldWithin (depth_of code) (count_behind x (length old.operands.items)) (drop (suc i) code.instrs)
-  behind_it = hold_behind (depth_of code) (length old.operands.items) i code.instrs x (item_at code.instrs i x inside is) holds
+  after_it : HoldWithin (depth_of code) (count_after x (length old.operands.items)) (drop (suc i) code.instrs)
+  after_it = hold_after (depth_of code) (length old.operands.items) i code.instrs x (item_at code.instrs i x inside is) holds
 
   -- it has room for what it leaves
-  pub count_fits : HasRoom code old → count_behind x (length old.operands.items) ≤ vec_capacity old.operands
-  count_fits has = omega (arith, has.depth, room_for (depth_of code) (count_behind x (length old.operands.items)) (drop (suc i) code.instrs) behind_it)
+  pub count_fits : HasRoom code old → count_after x (length old.operands.items) ≤ vec_capacity old.operands
+  count_fits has = omega (arith, has.depth, room_for (depth_of code) (count_after x (length old.operands.items)) (drop (suc i) code.instrs) after_it)
 
   -- and so has what follows
-  pub holds_behind : (new : Workspace) → length new.operands.items ≤ count_behind x (length old.operands.items) → HoldsFrom code (i + 1) new
-  holds_behind new few =
+  pub holds_after : (new : Workspace) → length new.operands.items ≤ count_after x (length old.operands.items) → HoldsFrom code (i + 1) new
+  holds_after new few =
       let next : suc i ≡ i + 1 = omega arith in
-      fewer_hold (depth_of code) (length new.operands.items) (count_behind x (length old.operands.items)) (drop (i + 1) code.instrs) few
-      (subst (λ (k : ℕ). HoldWithin (depth_of code) (count_behind x (length old.operands.items)) (drop k code.instrs)) next behind_it)
+      fewer_hold (depth_of code) (length new.operands.items) (count_after x (length old.operands.items)) (drop (i + 1) code.instrs) few
+      (subst (λ (k : ℕ). HoldWithin (depth_of code) (count_after x (length old.operands.items)) (drop k code.instrs)) next after_it)
 
 -- it changed nothing
 pub holds_still : (code : CodeLists) (i : ℕ) (old new : Workspace) → length new.operands.items ≡ length old.operands.items → HoldsFrom code i old → HoldsFrom code i new

@@ -78,7 +78,7 @@ fn make(
 }
 
 // The items from a place on.
-fn behind(items: &[Value], at: usize) -> &[Value]
+fn after(items: &[Value], at: usize) -> &[Value]
     requires { at ≤ length items.now }
     ensures { result.now ≡ drop at items.now }
 {
@@ -100,7 +100,7 @@ pub fn act(code: &CodeLists, here: u32, instr: &Instr, work: &mut Workspace) -> 
         return Err(Stop::Wrong);
     }
     let below = len - count;
-    let values = behind(&work.operands, below);
+    let values = after(&work.operands, below);
     match make(code, here, instr, values, &mut work.text, &mut work.memory) {
         Ok(made) => {
             work.operands.truncate(below);

@@ -6,8 +6,8 @@ ghost use Rattle.stapl_meaning.specs.declared.values.Value.{Value};
 ghost use Rattle.stapl_meaning.specs.Deeds.{Chain};
 ghost use Rattle.stapl_meaning.specs.States.{ScanSettings, State, next_chosen, jumps_to, Happened, happens, happened_in_piece};
 ghost use Rattle.stapl_code.specs.Machine.{lands, entry_of, at_end, continues};
-ghost use Rattle.stapl_code.specs.Ticks.{counted_behind};
-ghost use Rattle.stapl_code.specs.Rooms.{count_behind};
+ghost use Rattle.stapl_code.specs.Ticks.{counted_after};
+ghost use Rattle.stapl_code.specs.Rooms.{count_after};
 ghost use Rattle.stapl_code.specs.Safe.{entries_of};
 ghost use Rattle.machine_memory.specs.Acts.{state_with, step_of, stepped, RestsAfter};
 ghost use Rattle.machine_memory.specs.Prints.{instr_room};
@@ -118,7 +118,7 @@ fn lead(
         work.old) go)
         ≡ moved_to code.now instr.now result chosen.now work.new k go }
     ensures ticks { (k : Chain) (go : List Value → State → Chain → ℕ) →
-        counted_behind k (stepped code.now instr.now (lands (entries_of code.now.procedures) here instr.now) chosen.now
+        counted_after k (stepped code.now instr.now (lands (entries_of code.now.procedures) here instr.now) chosen.now
         made work.old) go
         ≡ moved_ticks code.now instr.now result chosen.now work.new k go }
     ensures clean { (most : ℕ) → IsWithin most made work.old → IsCleanMove most result work.new }
@@ -165,14 +165,14 @@ pub fn advance(
 ) -> Moved
     requires countable { here + 1 < 2 ^ 32 }
     requires prints { instr_room code.now.texts instr.now ≤ vec_capacity work.old.text }
-    requires few { count_behind instr.now (length work.old.operands.items) ≤ vec_capacity work.old.operands }
+    requires few { count_after instr.now (length work.old.operands.items) ≤ vec_capacity work.old.operands }
     ensures leads { (k : Chain) (go : List Value → State → Chain → Happened) →
         happened_in_piece work.old.piece (continues k (step_of code.now here instr.now chosen.now work.old) go)
         ≡ moved_to code.now instr.now result chosen.now work.new k go }
     ensures ticks { (k : Chain) (go : List Value → State → Chain → ℕ) →
-        counted_behind k (step_of code.now here instr.now chosen.now work.old) go
+        counted_after k (step_of code.now here instr.now chosen.now work.old) go
         ≡ moved_ticks code.now instr.now result chosen.now work.new k go }
-    ensures clean { IsCleanMove (count_behind instr.now (length work.old.operands.items)) result work.new }
+    ensures clean { IsCleanMove (count_after instr.now (length work.old.operands.items)) result work.new }
     ensures rests { RestsBehind result work.new.memory }
     ensures room { KeepsRoom work.old work.new }
 {

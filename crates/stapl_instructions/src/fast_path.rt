@@ -3,7 +3,7 @@ ghost use Rattle.std.specs.Prelude.{◌≡◌, ◌∷◌, ◌<◌, ◌≤◌, []
 ghost use Rattle.stapl_meaning.specs.declared.values.Value.TheVariants.{Int, Bit};
 ghost use Rattle.stapl_meaning.specs.Values.{Known, element_of, index_held};
 ghost use Rattle.stapl_code.specs.Machine.{Falls, Stops, operated};
-ghost use Rattle.stapl_code.specs.Rooms.{count_behind};
+ghost use Rattle.stapl_code.specs.Rooms.{count_after};
 ghost use Rattle.stapl_meaning.specs.declared.records.Record.TheVariants.{Looped};
 ghost use Rattle.stapl_meaning.specs.States.{Leads};
 ghost use Rattle.stapl_meaning.specs.Effects.{repeated};
@@ -413,7 +413,7 @@ fn go(to: u32, work: &Workspace) -> Tried
 /// There is room for the operands that it leaves.
 #[inline(always)]
 pub fn try_step(code: &CodeLists, here: u32, instr: &Instr, work: &mut Workspace) -> Tried
-    requires { count_behind instr.now (length work.old.operands.items) ≤ vec_capacity work.old.operands }
+    requires { count_after instr.now (length work.old.operands.items) ≤ vec_capacity work.old.operands }
     ensures tried { (chosen : List ℕ) →
         IsTried result chosen work.old work.new (step_of code.now here instr.now chosen work.old) }
     ensures kept { IsKeptBeside work.old work.new }

@@ -4,18 +4,18 @@ use Rattle.std.proofs.Math.Seq.{take-suc}
 use Rattle.std.proofs.lemmas.Grind.{flat_map-append}
 use Rattle.std.proofs.lemmas.List.{append-nil}
 use Rattle.std.proofs.lemmas.List.Concat.{flat_map-cons}
-use Rattle.stapl_lexer.specs.Crc.{low_bits, remainder_behind, remainder, bits_of_byte, bits_of_text}
+use Rattle.stapl_lexer.specs.Crc.{low_bits, remainder_after, remainder, bits_of_byte, bits_of_text}
 
 -- one bit more of a byte
 pub remainder_more : (i crc bits : ℕ) → i < 8 →
-    remainder (remainder_behind crc (bits % 2 == 1)) (low_bits (8 - (i + 1)) (bits / 2)) ≡ remainder crc (low_bits (8 - i) bits)
+    remainder (remainder_after crc (bits % 2 == 1)) (low_bits (8 - (i + 1)) (bits / 2)) ≡ remainder crc (low_bits (8 - i) bits)
 remainder_more i crc bits lt =
     let fewer : 8 - i ≡ suc (8 - (i + 1)) = omega arith in
     sym (ap (λ (k : ℕ). remainder crc (low_bits k bits)) fewer)
 
 remainder_append : (crc : ℕ) (a b : List Bool) → remainder crc (a ++ b) ≡ remainder (remainder crc a) b
 remainder_append crc [] b = refl
-remainder_append crc (x ∷ xs) b = remainder_append (remainder_behind crc x) xs b
+remainder_append crc (x ∷ xs) b = remainder_append (remainder_after crc x) xs b
 
 -- one byte more of a text
 pub text_more : (bytes : List ℕ) (i : ℕ) → i < length bytes →

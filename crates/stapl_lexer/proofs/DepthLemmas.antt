@@ -157,7 +157,7 @@ counted n [] e = inl (record { front = []; rest = []; parts = refl; deep = elim 
     or_last false = refl
 counted n (token ∷ tokens) e = elim (above_is n (opens_many (open_after token.terminal n) tokens) e) [
   | inl lt ↦ inl (record { front = []; rest = token ∷ tokens; parts = refl; deep = omega arith })
-  | inr behind ↦ elim (counted (open_after token.terminal n) tokens behind) [
+  | inr after ↦ elim (counted (open_after token.terminal n) tokens after) [
     | inl h ↦ taken n token tokens h
     | inr h ↦ inr (later token tokens h)
   ]

@@ -97,28 +97,28 @@ divided_bytes (s ∷ ss) bytes rest divides =
     divides.1 ∙ ap (λ (v : List ℕ). spelled s ++ v) (divided_bytes ss divides.0 rest divides.3) ∙ sym (append_assoc (spelled s) (spelling ss) rest)
 
 -- the bytes of the digits of a literal and of the blanks before them
-record OwnDigits (kind : TokenKind) (bytes digits behind : List ℕ) : Type 0 where
+record OwnDigits (kind : TokenKind) (bytes digits after : List ℕ) : Type 0 where
   own : List ℕ
-  parts : bytes ≡ own ++ behind
+  parts : bytes ≡ own ++ after
   digits_are : digits ≡ digits_in kind false own
 
-own_digits : (kind : TokenKind) (bytes digits behind : List ℕ) → SpacedDigits kind bytes digits behind → OwnDigits kind bytes digits behind
-own_digits kind bytes [] behind spaced = record { own = []; parts = spaced.0; digits_are = refl }
-own_digits kind bytes (d ∷ digits) behind spaced =
-    let more = own_digits kind spaced.0 digits behind spaced.3 in
+own_digits : (kind : TokenKind) (bytes digits after : List ℕ) → SpacedDigits kind bytes digits after → OwnDigits kind bytes digits after
+own_digits kind bytes [] after spaced = record { own = []; parts = spaced.0; digits_are = refl }
+own_digits kind bytes (d ∷ digits) after spaced =
+    let more = own_digits kind spaced.0 digits after spaced.3 in
     let blanks = spaced.1.blanks in record {
       own = spelling blanks ++ d ∷ more.own;
       parts = divided_bytes blanks bytes (d ∷ spaced.0) spaced.1.divides ∙ ap (λ (v : List ℕ). spelling blanks ++ d ∷ v) more.parts
-          ∙ sym (append_assoc (spelling blanks) (d ∷ more.own) behind);
+          ∙ sym (append_assoc (spelling blanks) (d ∷ more.own) after);
       digits_are = ap (λ (v : List ℕ). d ∷ v) more.digits_are
           ∙ sym (past_blanks kind blanks bytes d spaced.0 more.own spaced.1.divides spaced.1.blank spaced.2).outside;
     }
 
 -- the digits of a literal are those in its bytes
-pub digits_are_spaced : (kind : TokenKind) (own behind digits : List ℕ) → SpacedDigits kind (own ++ behind) digits behind → digits ≡ digits_in kind false own
-digits_are_spaced kind own behind digits spaced =
-    let o = own_digits kind (own ++ behind) digits behind spaced in
-    o.digits_are ∙ ap (digits_in kind false) (sym (append_cancel_right own o.own behind o.parts))
+pub digits_are_spaced : (kind : TokenKind) (own after digits : List ℕ) → SpacedDigits kind (own ++ after) digits after → digits ≡ digits_in kind false own
+digits_are_spaced kind own after digits spaced =
+    let o = own_digits kind (own ++ after) digits after spaced in
+    o.digits_are ∙ ap (digits_in kind false) (sym (append_cancel_right own o.own after o.parts))
 
 all_cond : (kind : TokenKind) (b : ℕ) (rest : List ℕ) (test : Bool) → is_literal_digit kind b ≡ test → list_all (is_literal_digit kind) rest ≡ true →
     list_all (is_literal_digit kind) (cond test (b ∷ rest) rest) ≡ true

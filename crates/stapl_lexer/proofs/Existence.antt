@@ -19,7 +19,7 @@ use Rattle.stapl_lexer.specs.Segments.{Segment, Plain, Closed, Open, Comment, sp
 use Rattle.stapl_lexer.specs.PieceTokens.{AreBlanks, is_exponent_mark, begins_exponent, IsExponent, is_literal_digit, SpacedDigits, IsLiteral, is_closed, Spells, kind_at, first_word, value_of, terminal_of, Lexeme, HasLexemes}
 use Rattle.stapl_lexer.proofs.Dividing.{divided}
 use Rattle.stapl_lexer.proofs.LexemeLemmas.{range_first}
-use Rattle.stapl_lexer.proofs.PieceTokenLemmas.{clash, same_blanks, same_spaced, range_behind, range_front, range_length}
+use Rattle.stapl_lexer.proofs.PieceTokenLemmas.{clash, same_blanks, same_spaced, range_after, range_front, range_length}
 use Rattle.stapl_lexer.proofs.RunLemmas.{both_true}
 use Rattle.stapl_lexer.proofs.SpellingLemmas.{no_zero_mark}
 use Rattle.stapl_lexer.proofs.CutLemmas.{head_is, blank_by_head}
@@ -107,10 +107,10 @@ blanks_exist bytes = let d = divided bytes in blanks_of d.0 bytes d.1
 pub record TokenInFront (kind : TokenKind) (bytes : List ℕ) : Type 0 where
   pub good : Bool
   pub own : List ℕ
-  pub behind : List ℕ
-  pub parts : bytes ≡ own ++ behind
+  pub beyond : List ℕ
+  pub parts : bytes ≡ own ++ beyond
   pub some : 0 < length own
-  pub spells : Spells kind good own behind
+  pub spells : Spells kind good own beyond
 
 -- words
 word_with : (bytes name rest : List ℕ) (dollar : Bool) → bytes ≡ name ++ rest → 0 < length name → list_all is_name_byte name ≡ true →
@@ -118,7 +118,7 @@ word_with : (bytes name rest : List ℕ) (dollar : Bool) → bytes ≡ name ++ r
 word_with bytes name rest false parts some passes stops e = record {
   good = true;
   own = name;
-  behind = rest;
+  beyond = rest;
   parts = parts;
   some = some;
   spells = (record { name = name; tail = []; parts = sym (append-nil name); name_bytes = passes; ends = (stops, e) }, refl);
@@ -130,7 +130,7 @@ word_with bytes name (c ∷ cs) true parts some passes stops e =
     record {
       good = true;
       own = name ++ 36 ∷ [];
-      behind = cs;
+      beyond = cs;
       parts = parts ∙ ap (λ (k : ℕ). name ++ k ∷ cs) is ∙ sym (append_assoc name (36 ∷ []) cs);
       some = omega (arith, length-append name (36 ∷ []));
       spells = (record { name = name; tail = 36 ∷ []; parts = refl; name_bytes = passes; ends = (refl, both.0) }, refl);
@@ -146,13 +146,13 @@ word_exists b bs e =
 are_digits : (bytes : List ℕ) → 0 < length bytes → list_all is_ascii_digit bytes ≡ true → IsDigits bytes
 are_digits bytes some passes = (λ none. omega (arith, ap length none), passes)
 
-number_of : (bytes digits exponent behind : List ℕ) → bytes ≡ digits ++ (exponent ++ behind) → IsDigits digits → 0 < length digits → IsExponent exponent behind →
+number_of : (bytes digits exponent beyond : List ℕ) → bytes ≡ digits ++ (exponent ++ beyond) → IsDigits digits → 0 < length digits → IsExponent exponent beyond →
     TokenInFront kinds.Number bytes
-number_of bytes digits exponent behind parts are some ends = record {
-  good = not (is_name_byte (slice_index behind 0));
+number_of bytes digits exponent beyond parts are some ends = record {
+  good = not (is_name_byte (slice_index beyond 0));
   own = digits ++ exponent;
-  behind = behind;
-  parts = parts ∙ sym (append_assoc digits exponent behind);
+  beyond = beyond;
+  parts = parts ∙ sym (append_assoc digits exponent beyond);
   some = omega (arith, length-append digits exponent);
   spells = (record { digits = digits; exponent = exponent; parts = refl; are_digits = are; ends = ends }, refl);
 }
@@ -187,7 +187,7 @@ text_with [] b bs d = absurd cc
 text_with (s ∷ ss) b bs d = record {
   good = is_closed s;
   own = spelled s;
-  behind = d.0;
+  beyond = d.0;
   parts = d.1;
   some = spelled_some s;
   spells = (s, refl, d.2, refl);
@@ -200,16 +200,16 @@ text_exists b bs = let d = divided (b ∷ bs) in text_with d.0 b bs d.1
 pub record DigitsInFront (kind : TokenKind) (bytes : List ℕ) : Type 0 where
   pub digits : List ℕ
   pub own : List ℕ
-  pub behind : List ℕ
-  pub parts : bytes ≡ own ++ behind
+  pub beyond : List ℕ
+  pub parts : bytes ≡ own ++ beyond
   pub some : length digits ≤ length own
-  pub spaced : SpacedDigits kind bytes digits behind
+  pub spaced : SpacedDigits kind bytes digits beyond
 
 no_digits : (kind : TokenKind) (bytes : List ℕ) (blanks : BlanksInFront bytes) → StartsWithout (is_literal_digit kind) blanks.rest → DigitsInFront kind bytes
 no_digits kind bytes blanks stops = record {
   digits = [];
   own = [];
-  behind = bytes;
+  beyond = bytes;
   parts = refl;
   some = omega arith;
   spaced = (refl, record { rest = blanks.rest; blank = blanks.blank; solid = blanks.solid; stops = stops });
@@ -222,8 +222,8 @@ one_digit kind bytes front d rest parts blank e more =
     record {
       digits = d ∷ more.digits;
       own = front ++ d ∷ more.own;
-      behind = more.behind;
-      parts = parts ∙ ap (λ (v : List ℕ). front ++ d ∷ v) more.parts ∙ sym (append_assoc front (d ∷ more.own) more.behind);
+      beyond = more.beyond;
+      parts = parts ∙ ap (λ (v : List ℕ). front ++ d ∷ v) more.parts ∙ sym (append_assoc front (d ∷ more.own) more.beyond);
       some = omega (arith, some, length-append front (d ∷ more.own));
       spaced = (rest, blank, e, more.spaced);
     }
@@ -256,57 +256,57 @@ pub digits_exist : (kind : TokenKind) (bytes : List ℕ) → DigitsInFront kind 
 digits_exist kind bytes = digits_within (length bytes) kind bytes (omega arith)
 
 -- literals
-literal_exists : (kind : TokenKind) (b : ℕ) (bs : List ℕ) → ((good : Bool) (own behind : List ℕ) → IsLiteral kind good own behind → Spells kind good own behind) →
+literal_exists : (kind : TokenKind) (b : ℕ) (bs : List ℕ) → ((good : Bool) (own beyond : List ℕ) → IsLiteral kind good own beyond → Spells kind good own beyond) →
     TokenInFront kind (b ∷ bs)
 literal_exists kind b bs spells_by =
     let found = digits_exist kind bs in
     record {
       good = nat_le 1 (length found.digits);
       own = b ∷ found.own;
-      behind = found.behind;
+      beyond = found.beyond;
       parts = ap (λ (v : List ℕ). b ∷ v) found.parts;
       some = omega arith;
-      spells = spells_by (nat_le 1 (length found.digits)) (b ∷ found.own) found.behind
-          (found.digits, subst (λ (v : List ℕ). SpacedDigits kind v found.digits found.behind) found.parts found.spaced, refl);
+      spells = spells_by (nat_le 1 (length found.digits)) (b ∷ found.own) found.beyond
+          (found.digits, subst (λ (v : List ℕ). SpacedDigits kind v found.digits found.beyond) found.parts found.spaced, refl);
     }
 
 pub binary_exists : (b : ℕ) (bs : List ℕ) → TokenInFront kinds.Binary (b ∷ bs)
-binary_exists b bs = literal_exists kinds.Binary b bs (λ good own behind h. h)
+binary_exists b bs = literal_exists kinds.Binary b bs (λ good own beyond h. h)
 
 pub hexadecimal_exists : (b : ℕ) (bs : List ℕ) → TokenInFront kinds.Hexadecimal (b ∷ bs)
-hexadecimal_exists b bs = literal_exists kinds.Hexadecimal b bs (λ good own behind h. h)
+hexadecimal_exists b bs = literal_exists kinds.Hexadecimal b bs (λ good own beyond h. h)
 
 -- after the word CRC
-bad_check : (b : ℕ) (bs : List ℕ) (found : DigitsInFront kinds.Hex4 (b ∷ bs)) → (length found.digits ≡ 4 → AreBlanks found.behind [] → ⊥) →
+bad_check : (b : ℕ) (bs : List ℕ) (found : DigitsInFront kinds.Hex4 (b ∷ bs)) → (length found.digits ≡ 4 → AreBlanks found.beyond [] → ⊥) →
     TokenInFront kinds.Hex4 (b ∷ bs)
 bad_check b bs found bad = record {
   good = false;
   own = b ∷ bs;
-  behind = [];
+  beyond = [];
   parts = sym (append-nil (b ∷ bs));
   some = omega arith;
   spells = (
     refl,
     λ front rest e four.
-        let m = same_spaced kinds.Hex4 (b ∷ bs) four.digits rest found.digits found.behind
+        let m = same_spaced kinds.Hex4 (b ∷ bs) four.digits rest found.digits found.beyond
         (subst (λ (v : List ℕ). SpacedDigits kinds.Hex4 v four.digits rest) (sym e) four.spaced) found.spaced in
         bad (sym (ap length m.0) ∙ four.four) (subst (λ (v : List ℕ). AreBlanks v []) m.1 four.ends),
   );
 }
 
-good_check : (b : ℕ) (bs : List ℕ) (found : DigitsInFront kinds.Hex4 (b ∷ bs)) → length found.digits ≡ 4 → AreBlanks found.behind [] →
+good_check : (b : ℕ) (bs : List ℕ) (found : DigitsInFront kinds.Hex4 (b ∷ bs)) → length found.digits ≡ 4 → AreBlanks found.beyond [] →
     TokenInFront kinds.Hex4 (b ∷ bs)
 good_check b bs found four blank =
     let some = found.some in
     record {
       good = true;
       own = found.own;
-      behind = found.behind;
+      beyond = found.beyond;
       parts = found.parts;
       some = omega arith;
       spells = record {
         digits = found.digits;
-        spaced = subst (λ (v : List ℕ). SpacedDigits kinds.Hex4 v found.digits found.behind) found.parts found.spaced;
+        spaced = subst (λ (v : List ℕ). SpacedDigits kinds.Hex4 v found.digits found.beyond) found.parts found.spaced;
         four = four;
         ends = blank;
       };
@@ -324,7 +324,7 @@ pub check_exists : (b : ℕ) (bs : List ℕ) → TokenInFront kinds.Hex4 (b ∷ 
 check_exists b bs =
     let found = digits_exist kinds.Hex4 (b ∷ bs) in
     elim (cases_eq (length found.digits) 4) [
-      | inl four ↦ elim (blanks_or_not found.behind) [
+      | inl four ↦ elim (blanks_or_not found.beyond) [
         | inl blank ↦ good_check b bs found four blank
         | inr other ↦ bad_check b bs found (λ _ blank. other blank)
       ]
@@ -334,10 +334,10 @@ check_exists b bs =
 -- marks
 mark_with : (a : ℕ) (bs : List ℕ) (two : Bool) → is_mark_spelling (a ∷ slice_index bs 0 ∷ []) ≡ two → TokenInFront kinds.Mark (a ∷ bs)
 mark_with a bs false e =
-    record { good = is_mark_spelling (a ∷ []); own = a ∷ []; behind = bs; parts = refl; some = omega arith; spells = (e, refl) }
+    record { good = is_mark_spelling (a ∷ []); own = a ∷ []; beyond = bs; parts = refl; some = omega arith; spells = (e, refl) }
 mark_with a [] true e = absurd (clash (is_mark_spelling (a ∷ 0 ∷ [])) e (no_zero_mark a))
 mark_with a (b ∷ bs) true e =
-    record { good = is_mark_spelling (a ∷ b ∷ []); own = a ∷ b ∷ []; behind = bs; parts = refl; some = omega arith; spells = (e, refl) }
+    record { good = is_mark_spelling (a ∷ b ∷ []); own = a ∷ b ∷ []; beyond = bs; parts = refl; some = omega arith; spells = (e, refl) }
 
 pub mark_exists : (a : ℕ) (bs : List ℕ) → TokenInFront kinds.Mark (a ∷ bs)
 mark_exists a bs = mark_with a bs (is_mark_spelling (a ∷ slice_index bs 0 ∷ [])) refl
@@ -375,7 +375,7 @@ range_divided text at limit front rest le within e =
       within = fits;
       count = count;
       front_is = sym (range_front text at limit (length front) fits) ∙ ap (take (length front)) e ∙ take-append_seam front rest;
-      rest_is = sym (range_behind text at limit (length front) fits) ∙ ap (drop (length front)) e ∙ drop-append_seam front rest;
+      rest_is = sym (range_after text at limit (length front) fits) ∙ ap (drop (length front)) e ∙ drop-append_seam front rest;
     }
 
 -- the tokens from each later place on
@@ -390,7 +390,7 @@ one_lexeme text first at limit blanks b bs le within e later =
     let rest_is : slice_range text start limit ≡ b ∷ bs = outer.rest_is ∙ e in
     let found : TokenInFront (kind_at first b) (b ∷ bs) = token_exists first b bs in
     let end : ℕ = start + length found.own in
-    let inner : RangeParts text start limit found.own found.behind = range_divided text start limit found.own found.behind outer.within within (rest_is ∙ found.parts) in
+    let inner : RangeParts text start limit found.own found.beyond = range_divided text start limit found.own found.beyond outer.within within (rest_is ∙ found.parts) in
     let some : 0 < length found.own = found.some in
     let inside : end ≤ limit = inner.within in
     let byte_is : slice_index text start ≡ b =
@@ -407,7 +407,7 @@ one_lexeme text first at limit blanks b bs le within e later =
       record { token = token; good = found.good } ∷ more.0,
       (
         record {
-          behind = omega arith;
+          after = omega arith;
           some = omega arith;
           within = inside;
           blank = subst (AreBlanks (slice_range text at limit)) (sym outer.rest_is) blanks.blank;

@@ -183,9 +183,9 @@ spaced_more kind bytes end count n before next =
       few = omega arith;
       digits = before.digits ++ d ∷ [];
       count_is = omega (arith, length-append before.digits (d ∷ []));
-      forward = λ more behind h.
-          subst (λ (v : List ℕ). SpacedDigits kind bytes v behind) (sym (append_assoc before.digits (d ∷ []) more))
-          (before.forward (d ∷ more) behind (drop (end + (n + 1)) bytes, subst (AreBlanks rest) there next.blank, next.digit, h));
+      forward = λ more after h.
+          subst (λ (v : List ℕ). SpacedDigits kind bytes v after) (sym (append_assoc before.digits (d ∷ []) more))
+          (before.forward (d ∷ more) after (drop (end + (n + 1)) bytes, subst (AreBlanks rest) there next.blank, next.digit, h));
     }
 
 pub spaced_all : (kind : TokenKind) (bytes : List ℕ) (end count : ℕ) → IsSpacedUpTo kind bytes end count → HasNoDigit kind (drop end bytes) → IsSpacedFront kind bytes end count

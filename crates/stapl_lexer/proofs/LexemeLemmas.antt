@@ -15,7 +15,7 @@ use Rattle.stapl_lexer.specs.Runs.{IsSolid}
 use Rattle.stapl_lexer.specs.PieceTokens.{AreBlanks, Spells, number_value, value_of, terminal_of, kind_at, first_word, Lexeme, BeginsWith, HasLexemes, LiesBetween}
 use Rattle.stapl_lexer.specs.PieceFaults.{is_number, is_large_number}
 use Rattle.stapl_lexer.specs.TokenReading.{cap, capped_value, IsBlankFront, IsFront, held_value, IsReadUpTo, AreRead}
-use Rattle.stapl_lexer.proofs.PieceTokenLemmas.{range_behind, range_front, range_length}
+use Rattle.stapl_lexer.proofs.PieceTokenLemmas.{range_after, range_front, range_length}
 
 -- the value that a token holds
 held_number : (n value : ℕ) → value ≡ min n cap → held_value value ≡ (if nat_le n 2147483648 then cast_signed w32 n else pos 0)
@@ -103,7 +103,7 @@ pub next_begins : (text : List ℕ) (is_crc : Option Bool) (at limit skipped : �
     BeginsWith text is_crc at limit (record { token = token; good = good })
 next_begins text is_crc at limit skipped kind front token good lt within blank is_kind found placed is_good =
     let start : ℕ = at + skipped in
-    let behind : drop skipped (slice_range text at limit) ≡ slice_range text start limit = range_behind text at limit skipped (omega arith) in
+    let after : drop skipped (slice_range text at limit) ≡ slice_range text start limit = range_after text at limit skipped (omega arith) in
     let starts : token.start ≡ start = placed.start_is in
     let ends : token.end ≡ start + front.len = placed.end_is in
     let some = found.some in
@@ -111,14 +111,14 @@ next_begins text is_crc at limit skipped kind front token good lt within blank i
     let own : take front.len (slice_range text start limit) ≡ slice_range text token.start token.end =
     range_front text start limit front.len (omega arith) ∙ ap (λ (k : ℕ). slice_range text k (start + front.len)) (sym starts) ∙ ap (slice_range text token.start) (sym ends) in
     let rest : drop front.len (slice_range text start limit) ≡ slice_range text token.end limit =
-    range_behind text start limit front.len (omega arith) ∙ ap (λ (k : ℕ). slice_range text k limit) (sym ends) in
+    range_after text start limit front.len (omega arith) ∙ ap (λ (k : ℕ). slice_range text k limit) (sym ends) in
     let at_start : slice_range text start limit ≡ slice_range text token.start limit = ap (λ (k : ℕ). slice_range text k limit) (sym starts) in
     record {
-      behind = omega arith;
+      after = omega arith;
       some = omega arith;
       within = omega arith;
-      blank = subst (AreBlanks (slice_range text at limit)) (behind ∙ at_start) blank.blank;
-      solid = subst IsSolid (behind ∙ at_start) blank.solid;
+      blank = subst (AreBlanks (slice_range text at limit)) (after ∙ at_start) blank.blank;
+      solid = subst IsSolid (after ∙ at_start) blank.solid;
       kind = placed.kind_is ∙ is_kind ∙ ap (λ (k : ℕ). kind_at is_crc (slice_index text k)) (sym starts);
       spelled = subst (λ (k : TokenKind). Spells k good (slice_range text token.start token.end) (slice_range text token.end limit)) (sym placed.kind_is)
           (subst (λ (g : Bool). Spells kind g (slice_range text token.start token.end) (slice_range text token.end limit)) (sym is_good)
@@ -163,7 +163,7 @@ pub read_one : (text : List ℕ) (start limit : ℕ) (tokens : List Token) (good
     its_large ≡ is_large_number text token →
     IsReadUpTo text start limit (tokens ++ token ∷ []) (good && its_good) (large || its_large) (first_word is_crc token.kind (slice_range text token.start token.end)) token.end
 read_one text start limit tokens good large is_crc at token its_good its_large r b is_large =
-    let behind : at ≤ token.start = b.behind in
+    let after : at ≤ token.start = b.after in
     let some : token.start < token.end = b.some in
     let within : token.end ≤ limit = b.within in
     let from : start ≤ at = r.from in

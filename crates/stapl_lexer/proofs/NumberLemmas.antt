@@ -49,15 +49,15 @@ front_run (d ∷ ds) rest all stops =
     take_while-cons is_ascii_digit d (ds ++ rest)
     ∙ rw (and_parts (is_ascii_digit d) _ all).0 (ap (λ (v : List ℕ). d ∷ v) (front_run ds rest (and_parts (is_ascii_digit d) _ all).1 stops))
 
-behind_digits : (digits rest : List ℕ) → drop (length digits + 1) (digits ++ rest) ≡ drop 1 rest
-behind_digits digits rest =
+after_digits : (digits rest : List ℕ) → drop (length digits + 1) (digits ++ rest) ≡ drop 1 rest
+after_digits digits rest =
     sym (drop-drop 1 (length digits) (digits ++ rest)) ∙ ap (drop 1) (drop-append_seam digits rest)
 
 value_is : (digits rest : List ℕ) → list_all is_ascii_digit digits ≡ true → StartsWithout is_ascii_digit rest →
     number_value (digits ++ rest) ≡ digits_value 10 digits * 10 ^ digits_value 10 (drop 1 rest)
 value_is digits rest all stops =
     ap (λ (v : List ℕ). digits_value 10 v * 10 ^ digits_value 10 (drop (length v + 1) (digits ++ rest))) (front_run digits rest all stops)
-    ∙ ap (λ (v : List ℕ). digits_value 10 digits * 10 ^ digits_value 10 v) (behind_digits digits rest)
+    ∙ ap (λ (v : List ℕ). digits_value 10 digits * 10 ^ digits_value 10 v) (after_digits digits rest)
 
 one_times : (n : ℕ) → n * 10 ^ digits_value 10 [] ≡ n
 one_times n = omega arith
@@ -150,25 +150,25 @@ pub scaled_number : (bytes : List ℕ) (n m value power scaled : ℕ) → is_asc
 scaled_number bytes n m value power scaled digit run begins more v p s =
     let some : 0 < n = run_has is_ascii_digit bytes n (digit_has bytes digit) digit run in
     let within : n ≤ length bytes = run.within in
-    let behind = drop n bytes in
-    let has : 1 < length behind = exponent_has behind begins in
-    let next : drop 1 behind ≡ drop (n + 1) bytes = drop-drop 1 n bytes in
+    let after = drop n bytes in
+    let has : 1 < length after = exponent_has after begins in
+    let next : drop 1 after ≡ drop (n + 1) bytes = drop-drop 1 n bytes in
     let digits = take n bytes in
-    let exponent = get_or behind 0 0 ∷ take m (drop (n + 1) bytes) in
+    let exponent = get_or after 0 0 ∷ take m (drop (n + 1) bytes) in
     let m_within : m ≤ length (drop (n + 1) bytes) = more.within in
     let first : is_ascii_digit (get_or (drop (n + 1) bytes) 0 0) ≡ true =
-    ap (λ (w : List ℕ). is_ascii_digit (get_or w 0 0)) (sym next) ∙ ap is_ascii_digit (get_or-drop 1 behind 0 0) ∙ (and_parts (is_exponent_mark (get_or behind 0 0)) _ begins).1 in
+    ap (λ (w : List ℕ). is_ascii_digit (get_or w 0 0)) (sym next) ∙ ap is_ascii_digit (get_or-drop 1 after 0 0) ∙ (and_parts (is_exponent_mark (get_or after 0 0)) _ begins).1 in
     let m_some : 0 < m = run_has is_ascii_digit (drop (n + 1) bytes) m (digit_has (drop (n + 1) bytes) first) first more in
     let own : take (n + 1 + m) bytes ≡ digits ++ exponent =
     ap (λ (k : ℕ). take k bytes) (omega arith) ∙ take-add n (suc m) bytes
-    ∙ ap (λ (w : List ℕ). digits ++ w) (take_exponent behind m (omega arith) ∙ ap (λ (w : List ℕ). get_or behind 0 0 ∷ take m w) next) in
+    ∙ ap (λ (w : List ℕ). digits ++ w) (take_exponent after m (omega arith) ∙ ap (λ (w : List ℕ). get_or after 0 0 ∷ take m w) next) in
     let ends : IsExponent exponent (drop (n + 1 + m) bytes) = (
-      (and_parts (is_exponent_mark (get_or behind 0 0)) _ begins).0,
+      (and_parts (is_exponent_mark (get_or after 0 0)) _ begins).0,
       (digits_some (drop (n + 1) bytes) m m_some m_within, more.passes),
       subst (StartsWithout is_ascii_digit) (drop-drop m (n + 1) bytes) more.stops,
     ) in
     let whole : number_value (take (n + 1 + m) bytes) ≡ digits_value 10 digits * 10 ^ digits_value 10 (take m (drop (n + 1) bytes)) =
-    ap number_value own ∙ value_is digits exponent run.passes (mark_no_digit (get_or behind 0 0) ends.0) in
+    ap number_value own ∙ value_is digits exponent run.passes (mark_no_digit (get_or after 0 0) ends.0) in
     record {
       within = omega (arith, has, m_within, length-drop n bytes, length-drop (n + 1) bytes);
       some = omega arith;

@@ -141,8 +141,8 @@ all_last : (b : Bool) (text : List ℕ) (piece : Piece) → LiesIn text piece �
 all_last true text piece h = All-nil (LiesIn text)
 all_last false text piece h = All-cons (LiesIn text) piece [] h (All-nil (LiesIn text))
 
-behind : (text : List ℕ) (start : ℕ) (front more : List ℕ) → drop start text ≡ front ++ 59 ∷ more → drop (start + length front + 1) text ≡ more
-behind text start front more rest =
+after : (text : List ℕ) (start : ℕ) (front more : List ℕ) → drop start text ≡ front ++ 59 ∷ more → drop (start + length front + 1) text ≡ more
+after text start front more rest =
     let wide : List ℕ = front ++ 59 ∷ [] in
     let place : start + length front + 1 ≡ start + length wide = omega (arith, length-append front (59 ∷ [])) in
     ap (λ (k : ℕ). drop k text) place ∙ sym (drop-drop (length wide) start text)
@@ -158,7 +158,7 @@ lies_from text start (group ∷ next ∷ groups) within rest =
     let piece : LiesIn text (piece_of text start group true) = lies_closed text start group more within rest in
     let inside : start + length (spelling group) < length text = piece.before_end refl in
     All-cons (LiesIn text) (piece_of text start group true) _ piece
-    (lies_from text (start + length (spelling group) + 1) (next ∷ groups) (omega arith) (behind text start (spelling group) more rest))
+    (lies_from text (start + length (spelling group) + 1) (next ∷ groups) (omega arith) (after text start (spelling group) more rest))
 
 pub cut_lies : (text : List ℕ) (pieces : List Piece) → IsCut text pieces → All (LiesIn text) pieces
 cut_lies text pieces c =

@@ -29,9 +29,9 @@ same_head : {x y : ℕ} {xs ys : List ℕ} → x ∷ xs ≡ y ∷ ys → x ≡ y
 same_head e = cc
 
 -- words
-tail_stops : (name tail behind : List ℕ) → IsWordTail name tail behind → StartsWithout is_name_byte (tail ++ behind)
-tail_stops name [] behind e = e.0
-tail_stops name (b ∷ bs) behind e = subst (λ (v : List ℕ). StartsWithout is_name_byte (v ++ behind)) (sym e.0) refl
+tail_stops : (name tail after : List ℕ) → IsWordTail name tail after → StartsWithout is_name_byte (tail ++ after)
+tail_stops name [] after e = e.0
+tail_stops name (b ∷ bs) after e = subst (λ (v : List ℕ). StartsWithout is_name_byte (v ++ after)) (sym e.0) refl
 
 dollar_clash : (name : List ℕ) (d : ℕ) → spells_word (codes "CHR") name ≡ true → d ≡ 36 → (spells_word (codes "CHR") name && d == 36) ≡ false → ⊥
 dollar_clash name d p q e = clash _ (ap (λ (b : Bool). b && d == 36) p ∙ ap (λ (k : ℕ). k == 36) q) e
@@ -59,13 +59,13 @@ same_word own other r q a b e =
 pub mark_no_digit : (b : ℕ) → is_exponent_mark b ≡ true → is_ascii_digit b ≡ false
 mark_no_digit b e = grind (arith, nat_tests, e)
 
-exponent_stops : (tail behind : List ℕ) → IsExponent tail behind → StartsWithout is_ascii_digit (tail ++ behind)
-exponent_stops [] behind e = e.0
-exponent_stops (b ∷ bs) behind e = mark_no_digit b e.0
+exponent_stops : (tail after : List ℕ) → IsExponent tail after → StartsWithout is_ascii_digit (tail ++ after)
+exponent_stops [] after e = e.0
+exponent_stops (b ∷ bs) after e = mark_no_digit b e.0
 
-exponent_begins : (mark : ℕ) (power behind : List ℕ) → is_exponent_mark mark ≡ true → IsDigits power → begins_exponent (mark ∷ power ++ behind) ≡ true
-exponent_begins mark [] behind m d = absurd (d.0 refl)
-exponent_begins mark (p ∷ ps) behind m d = ap (λ (b : Bool). b && is_ascii_digit p) m ∙ (and_parts (is_ascii_digit p) _ d.1).0
+exponent_begins : (mark : ℕ) (power after : List ℕ) → is_exponent_mark mark ≡ true → IsDigits power → begins_exponent (mark ∷ power ++ after) ≡ true
+exponent_begins mark [] after m d = absurd (d.0 refl)
+exponent_begins mark (p ∷ ps) after m d = ap (λ (b : Bool). b && is_ascii_digit p) m ∙ (and_parts (is_ascii_digit p) _ d.1).0
 
 same_exponent : (ta tb r q : List ℕ) → IsExponent ta r → IsExponent tb q → ta ++ r ≡ tb ++ q → (ta ≡ tb) × (r ≡ q)
 same_exponent [] [] r q a b e = (refl, e)
@@ -121,7 +121,7 @@ drop_first (b ∷ bs) r some = refl
 pub record IsSame (g h : Bool) (own other r q : List ℕ) : Type 0 where
   pub good : g ≡ h
   pub bytes : own ≡ other
-  pub behind : r ≡ q
+  pub after : r ≡ q
 
 same_literal : (kind : TokenKind) (g h : Bool) (own other r q : List ℕ) → 0 < length own → 0 < length other → IsLiteral kind g own r → IsLiteral kind h other q →
     own ++ r ≡ other ++ q → IsSame g h own other r q
@@ -131,13 +131,13 @@ same_literal kind g h own other r q some more a b e =
     record {
       good = a.2 ∙ ap (λ (v : List ℕ). nat_le 1 (length v)) m.0 ∙ sym b.2;
       bytes = append_cancel_right own other q (ap (λ (v : List ℕ). own ++ v) (sym m.1) ∙ e);
-      behind = m.1;
+      after = m.1;
     }
 
 same_check : (g h : Bool) (own other r q : List ℕ) → IsCheckWord g own r → IsCheckWord h other q → own ++ r ≡ other ++ q → IsSame g h own other r q
 same_check true true own other r q a b e =
     let m = same_spaced kinds.Hex4 (other ++ q) a.digits r b.digits q (subst (λ (v : List ℕ). SpacedDigits kinds.Hex4 v a.digits r) e a.spaced) b.spaced in
-    record { good = refl; bytes = append_cancel_right own other q (ap (λ (v : List ℕ). own ++ v) (sym m.1) ∙ e); behind = m.1 }
+    record { good = refl; bytes = append_cancel_right own other q (ap (λ (v : List ℕ). own ++ v) (sym m.1) ∙ e); after = m.1 }
 same_check true false own other r q a b e =
     absurd (b.1 own r (sym (append-nil other) ∙ ap (λ (v : List ℕ). other ++ v) (sym b.0) ∙ sym e) a)
 same_check false true own other r q a b e =
@@ -145,7 +145,7 @@ same_check false true own other r q a b e =
 same_check false false own other r q a b e = record {
   good = refl;
   bytes = sym (append-nil own) ∙ ap (λ (v : List ℕ). own ++ v) (sym a.0) ∙ e ∙ ap (λ (v : List ℕ). other ++ v) b.0 ∙ append-nil other;
-  behind = a.0 ∙ sym b.0;
+  after = a.0 ∙ sym b.0;
 }
 
 -- marks
@@ -171,25 +171,25 @@ same_mark (x ∷ xs) (y ∷ z ∷ v ∷ vs) r q a b e = absurd b
 pub same_spelled : (kind : TokenKind) (g h : Bool) (own other r q : List ℕ) → 0 < length own → 0 < length other → Spells kind g own r → Spells kind h other q →
     own ++ r ≡ other ++ q → IsSame g h own other r q
 same_spelled kinds.Word g h own other r q some more a b e =
-    let m = same_word own other r q a.0 b.0 e in record { good = a.1 ∙ sym b.1; bytes = m.0; behind = m.1 }
+    let m = same_word own other r q a.0 b.0 e in record { good = a.1 ∙ sym b.1; bytes = m.0; after = m.1 }
 same_spelled kinds.Number g h own other r q some more a b e =
     let m = same_number own other r q a.0 b.0 e in
-    record { good = a.1 ∙ ap (λ (v : List ℕ). not (is_name_byte (slice_index v 0))) m.1 ∙ sym b.1; bytes = m.0; behind = m.1 }
+    record { good = a.1 ∙ ap (λ (v : List ℕ). not (is_name_byte (slice_index v 0))) m.1 ∙ sym b.1; bytes = m.0; after = m.1 }
 same_spelled kinds.Text g h own other r q some more a b e =
     let m = same_segment a.0 b.0 r q a.2 b.2 (ap (λ (v : List ℕ). v ++ r) (sym a.1) ∙ e ∙ ap (λ (v : List ℕ). v ++ q) b.1) in
     let segments : a.0 ≡ b.0 = m.0 in
-    record { good = a.3 ∙ ap is_closed segments ∙ sym b.3; bytes = a.1 ∙ ap spelled segments ∙ sym b.1; behind = m.1 }
+    record { good = a.3 ∙ ap is_closed segments ∙ sym b.3; bytes = a.1 ∙ ap spelled segments ∙ sym b.1; after = m.1 }
 same_spelled kinds.Binary g h own other r q some more a b e = same_literal kinds.Binary g h own other r q some more a b e
 same_spelled kinds.Hexadecimal g h own other r q some more a b e = same_literal kinds.Hexadecimal g h own other r q some more a b e
 same_spelled kinds.Mark g h own other r q some more a b e =
     let m = same_mark own other r q a.0 b.0 e in
     let bytes : own ≡ other = m.0 in
-    record { good = a.1 ∙ ap is_mark_spelling bytes ∙ sym b.1; bytes = bytes; behind = m.1 }
+    record { good = a.1 ∙ ap is_mark_spelling bytes ∙ sym b.1; bytes = bytes; after = m.1 }
 same_spelled kinds.Hex4 g h own other r q some more a b e = same_check g h own other r q a b e
 
 -- what stands after so many bytes of a range
-pub range_behind : (text : List ℕ) (at end k : ℕ) → at + k ≤ end → drop k (slice_range text at end) ≡ slice_range text (at + k) end
-range_behind text at end k le =
+pub range_after : (text : List ℕ) (at end k : ℕ) → at + k ≤ end → drop k (slice_range text at end) ≡ slice_range text (at + k) end
+range_after text at end k le =
     ap (λ (m : ℕ). drop k (take m (drop at text))) (omega arith) ∙ drop-take k (end - (at + k)) (drop at text)
     ∙ ap (take (end - (at + k))) (drop-drop k at text)
 
@@ -203,7 +203,7 @@ range_length text at end le within = length-take-le (end - at) (drop at text) (o
 range_split : (text : List ℕ) (at k end : ℕ) → at + k ≤ end → slice_range text at (at + k) ++ slice_range text (at + k) end ≡ slice_range text at end
 range_split text at k end le =
     ap (λ (v : List ℕ). v ++ slice_range text (at + k) end) (sym (range_front text at end k le))
-    ∙ ap (λ (v : List ℕ). take k (slice_range text at end) ++ v) (sym (range_behind text at end k le))
+    ∙ ap (λ (v : List ℕ). take k (slice_range text at end) ++ v) (sym (range_after text at end k le))
     ∙ take-append-drop k (slice_range text at end)
 
 -- two ranges that follow on one another
@@ -259,9 +259,9 @@ same_first text first at limit a b within f g =
     ∙ ap (λ (k : ℕ). terminal_of t.kind (slice_range text k s.end)) starts ∙ ap (terminal_of t.kind) same.bytes ∙ sym g.terminal in
     lexeme_is a b (token_is s t same_kind starts ends values terminals) same.good
 
-nothing_behind : (text : List ℕ) (first : Option Bool) (at limit : ℕ) (a : Lexeme) → limit ≤ length text → AreBlanks (slice_range text at limit) [] →
+nothing_after : (text : List ℕ) (first : Option Bool) (at limit : ℕ) (a : Lexeme) → limit ≤ length text → AreBlanks (slice_range text at limit) [] →
     BeginsWith text first at limit a → ⊥
-nothing_behind text first at limit a within blank f =
+nothing_after text first at limit a within blank f =
     let some : a.token.start < a.token.end = f.some in
     let ends : a.token.end ≤ limit = f.within in
     let none : [] ≡ slice_range text a.token.start limit =
@@ -272,8 +272,8 @@ nothing_behind text first at limit a within blank f =
 pub same_lexemes : (text : List ℕ) (first : Option Bool) (at limit : ℕ) (xs ys : List Lexeme) → limit ≤ length text → HasLexemes text first at limit xs →
     HasLexemes text first at limit ys → xs ≡ ys
 same_lexemes text first at limit [] [] within a b = refl
-same_lexemes text first at limit [] (y ∷ ys) within a b = absurd (nothing_behind text first at limit y within a b.0)
-same_lexemes text first at limit (x ∷ xs) [] within a b = absurd (nothing_behind text first at limit x within b a.0)
+same_lexemes text first at limit [] (y ∷ ys) within a b = absurd (nothing_after text first at limit y within a b.0)
+same_lexemes text first at limit (x ∷ xs) [] within a b = absurd (nothing_after text first at limit x within b a.0)
 same_lexemes text first at limit (x ∷ xs) (y ∷ ys) within a b =
     let same : x ≡ y = same_first text first at limit x y within a.0 b.0 in
     let more : xs ≡ ys = same_lexemes text (first_word first y.token.kind (slice_range text y.token.start y.token.end)) y.token.end limit xs ys within

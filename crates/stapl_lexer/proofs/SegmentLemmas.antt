@@ -18,8 +18,8 @@ position_or_length p xs = position_found (position_or_len p xs) (length xs) (pre
 pub position_within : (p : ℕ → Bool) (xs : List ℕ) → position_or_len p xs ≤ length xs
 position_within p xs = prefix_len-le-length (λ x. not (p x)) xs
 
-drop_behind : (b : ℕ) (bs : List ℕ) (k : ℕ) → drop (k + 1) (b ∷ bs) ≡ drop k bs
-drop_behind b bs k = rw add-one refl
+drop_after : (b : ℕ) (bs : List ℕ) (k : ℕ) → drop (k + 1) (b ∷ bs) ≡ drop k bs
+drop_after b bs k = rw add-one refl
 
 all_step : (q : ℕ → Bool) (x : ℕ) (xs : List ℕ) (b : Bool) → q x ≡ b → list_all q xs ≡ true → list_all q (cond b (x ∷ xs) []) ≡ true
 all_step q x xs true e h = rw e h
@@ -49,7 +49,7 @@ closed_at bs lt quote =
     record {
       segment = Closed front;
       parts = ap (λ (v : List ℕ). 34 ∷ v) (split_at_first ends_string bs 0 lt ∙ ap (λ (q : ℕ). front ++ (q ∷ after)) quote
-          ∙ sym (append_assoc front (34 ∷ []) after) ∙ ap (λ (v : List ℕ). (front ++ 34 ∷ []) ++ v) (sym (drop_behind 34 bs (n + 1))));
+          ∙ sym (append_assoc front (34 ∷ []) after) ∙ ap (λ (v : List ℕ). (front ++ 34 ∷ []) ++ v) (sym (drop_after 34 bs (n + 1))));
       len = omega (arith, length-append front (34 ∷ []), length-take-le n bs (omega arith));
       valid = all_front (λ b. not (ends_string b)) bs;
     }
@@ -62,11 +62,11 @@ open_at bs no_quote =
     let front = before_first ends_string bs in
     record {
       segment = Open front;
-      parts = ap (λ (v : List ℕ). 34 ∷ v) (sym (take-append-drop n bs) ∙ ap (λ (v : List ℕ). front ++ v) (sym (drop_behind 34 bs n)));
+      parts = ap (λ (v : List ℕ). 34 ∷ v) (sym (take-append-drop n bs) ∙ ap (λ (v : List ℕ). front ++ v) (sym (drop_after 34 bs n)));
       len = omega (arith, length-take-le n bs (prefix_len-le-length (λ b. not (ends_string b)) bs));
       valid = (
         all_front (λ b. not (ends_string b)) bs,
-        rw drop_behind (ends_line bs n (λ lt. string_end_is _ (passes_at_first ends_string bs 0 lt) (no_quote lt))),
+        rw drop_after (ends_line bs n (λ lt. string_end_is _ (passes_at_first ends_string bs 0 lt) (no_quote lt))),
       );
     }
 
@@ -76,11 +76,11 @@ comment_at bs =
     let front = before_first ends_comment bs in
     record {
       segment = Comment front;
-      parts = ap (λ (v : List ℕ). 39 ∷ v) (sym (take-append-drop n bs) ∙ ap (λ (v : List ℕ). front ++ v) (sym (drop_behind 39 bs n)));
+      parts = ap (λ (v : List ℕ). 39 ∷ v) (sym (take-append-drop n bs) ∙ ap (λ (v : List ℕ). front ++ v) (sym (drop_after 39 bs n)));
       len = omega (arith, length-take-le n bs (prefix_len-le-length (λ b. not (ends_comment b)) bs));
       valid = (
         all_front (λ b. not (ends_comment b)) bs,
-        rw drop_behind (ends_line bs n (λ lt. eqb-true _ 10 (passes_at_first ends_comment bs 0 lt))),
+        rw drop_after (ends_line bs n (λ lt. eqb-true _ 10 (passes_at_first ends_comment bs 0 lt))),
       );
     }
 

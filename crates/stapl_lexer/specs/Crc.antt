@@ -11,13 +11,13 @@ low_bits zero b = []
 low_bits (suc n) b = (b % 2 == 1) ∷ low_bits n (b / 2)
 
 -- the remainder after one more bit; 33800 is the CCITT polynomial with its bits reversed, 8408 in hexadecimal digits
-abbrev pub remainder_behind : ℕ → Bool → ℕ
-remainder_behind crc bit = if beq (crc % 2 == 1) bit then crc / 2 else bit_xor (crc / 2) 33800
+abbrev pub remainder_after : ℕ → Bool → ℕ
+remainder_after crc bit = if beq (crc % 2 == 1) bit then crc / 2 else bit_xor (crc / 2) 33800
 
 -- the remainder after a list of bits
 abbrev pub remainder : ℕ → List Bool → ℕ
 remainder crc [] = crc
-remainder crc (bit ∷ bits) = remainder (remainder_behind crc bit) bits
+remainder crc (bit ∷ bits) = remainder (remainder_after crc bit) bits
 
 -- the bits of a byte, or none of a carriage return
 abbrev pub bits_of_byte : ℕ → List Bool

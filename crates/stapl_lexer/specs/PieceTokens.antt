@@ -25,17 +25,17 @@ pub record AreBlanks (bytes rest : List ℕ) : Type 0 where
 -- What stands between the letters of a word and those bytes: nothing, or the `$` (36) of the word CHR$. That `$`
 -- belongs to the word where it stands directly after CHR.
 abbrev pub IsWordTail : List ℕ → List ℕ → List ℕ → Type 0
-IsWordTail name [] behind =
-    StartsWithout is_name_byte behind × ((spells_word (codes "CHR") name && slice_index behind 0 == 36) ≡ false)
-IsWordTail name (b ∷ bs) behind = (b ∷ bs ≡ 36 ∷ []) × (spells_word (codes "CHR") name ≡ true)
+IsWordTail name [] after =
+    StartsWithout is_name_byte after × ((spells_word (codes "CHR") name && slice_index after 0 == 36) ≡ false)
+IsWordTail name (b ∷ bs) after = (b ∷ bs ≡ 36 ∷ []) × (spells_word (codes "CHR") name ≡ true)
 
 -- a word, as long as it can be: letters, digits and underscores, of any number
-pub record IsWord (own behind : List ℕ) : Type 0 where
+pub record IsWord (own after : List ℕ) : Type 0 where
   pub name : List ℕ
   pub tail : List ℕ
   pub parts : own ≡ name ++ tail
   pub name_bytes : list_all is_name_byte name ≡ true
-  pub ends : IsWordTail name tail behind
+  pub ends : IsWordTail name tail after
 
 -- `E` or `e`
 abbrev pub is_exponent_mark : ℕ → Bool
@@ -47,16 +47,16 @@ begins_exponent bytes = is_exponent_mark (slice_index bytes 0) && is_ascii_digit
 
 -- What stands between the first digits of a number and those bytes: nothing, or `E` and the digits of its exponent.
 abbrev pub IsExponent : List ℕ → List ℕ → Type 0
-IsExponent [] behind = StartsWithout is_ascii_digit behind × (begins_exponent behind ≡ false)
-IsExponent (mark ∷ power) behind = (is_exponent_mark mark ≡ true) × IsDigits power × StartsWithout is_ascii_digit behind
+IsExponent [] after = StartsWithout is_ascii_digit after × (begins_exponent after ≡ false)
+IsExponent (mark ∷ power) after = (is_exponent_mark mark ≡ true) × IsDigits power × StartsWithout is_ascii_digit after
 
 -- a number, as long as it can be
-pub record IsNumber (own behind : List ℕ) : Type 0 where
+pub record IsNumber (own after : List ℕ) : Type 0 where
   pub digits : List ℕ
   pub exponent : List ℕ
   pub parts : own ≡ digits ++ exponent
   pub are_digits : IsDigits digits
-  pub ends : IsExponent exponent behind
+  pub ends : IsExponent exponent after
 
 -- the digits in front
 abbrev pub front_digits : List ℕ → List ℕ
@@ -80,15 +80,15 @@ pub record HasNoDigit (kind : TokenKind) (bytes : List ℕ) : Type 0 where
 
 -- These digits, as many as can be, with white space and comments before each of them, and then those bytes.
 abbrev pub SpacedDigits : TokenKind → List ℕ → List ℕ → List ℕ → Type 0
-SpacedDigits kind bytes [] behind = (bytes ≡ behind) × HasNoDigit kind bytes
-SpacedDigits kind bytes (d ∷ digits) behind =
+SpacedDigits kind bytes [] after = (bytes ≡ after) × HasNoDigit kind bytes
+SpacedDigits kind bytes (d ∷ digits) after =
     (rest : List ℕ) × AreBlanks bytes (d ∷ rest) × (is_literal_digit kind d ≡ true)
-    × SpacedDigits kind rest digits behind
+    × SpacedDigits kind rest digits after
 
 -- A literal: its mark, and the digits after that. It is good where it has a digit.
 abbrev pub IsLiteral : TokenKind → Bool → List ℕ → List ℕ → Type 0
-IsLiteral kind good own behind =
-    (digits : List ℕ) × SpacedDigits kind (drop 1 own ++ behind) digits behind × (good ≡ nat_le 1 (length digits))
+IsLiteral kind good own after =
+    (digits : List ℕ) × SpacedDigits kind (drop 1 own ++ after) digits after × (good ≡ nat_le 1 (length digits))
 
 -- The digits of a literal: those of its bytes that are digits, but for those in comments (JESD71, program text), which
 -- go from an apostrophe (39) up to a line feed (10). The flag says whether the bytes begin inside a comment.
@@ -101,24 +101,24 @@ digits_in kind false (b ∷ bs) =
     else digits_in kind false bs
 
 -- four hexadecimal digits, and nothing but white space and comments after them
-pub record AreFourDigits (own behind : List ℕ) : Type 0 where
+pub record AreFourDigits (own after : List ℕ) : Type 0 where
   pub digits : List ℕ
-  pub spaced : SpacedDigits kinds.Hex4 (own ++ behind) digits behind
+  pub spaced : SpacedDigits kinds.Hex4 (own ++ after) digits after
   pub four : length digits ≡ 4
-  pub ends : AreBlanks behind []
+  pub ends : AreBlanks after []
 
 -- What stands after the word CRC: four hexadecimal digits, or else it is all bytes there, and bad.
 abbrev pub IsCheckWord : Bool → List ℕ → List ℕ → Type 0
-IsCheckWord true own behind = AreFourDigits own behind
-IsCheckWord false own behind =
-    (behind ≡ []) × ((front rest : List ℕ) → own ≡ front ++ rest → AreFourDigits front rest → ⊥)
+IsCheckWord true own after = AreFourDigits own after
+IsCheckWord false own after =
+    (after ≡ []) × ((front rest : List ℕ) → own ≡ front ++ rest → AreFourDigits front rest → ⊥)
 
 -- a mark, as long as it can be, or a single byte that begins no token
 abbrev pub IsMark : List ℕ → List ℕ → Type 0
-IsMark [] behind = ⊥
-IsMark (a ∷ []) behind = is_mark_spelling (a ∷ slice_index behind 0 ∷ []) ≡ false
-IsMark (a ∷ b ∷ []) behind = is_mark_spelling (a ∷ b ∷ []) ≡ true
-IsMark (a ∷ b ∷ _ ∷ _) behind = ⊥
+IsMark [] after = ⊥
+IsMark (a ∷ []) after = is_mark_spelling (a ∷ slice_index after 0 ∷ []) ≡ false
+IsMark (a ∷ b ∷ []) after = is_mark_spelling (a ∷ b ∷ []) ≡ true
+IsMark (a ∷ b ∷ _ ∷ _) after = ⊥
 
 -- a string that is closed
 abbrev pub is_closed : Segment → Bool
@@ -129,13 +129,13 @@ is_closed _ = false
 -- underscore follows is bad, and so is a string that is open, a literal without a digit, and a single byte that is no
 -- mark, as a single `.`, an underscore that stands in no word, or a byte that is none of the language.
 abbrev pub Spells : TokenKind → Bool → List ℕ → List ℕ → Type 0
-Spells kinds.Word good own behind = IsWord own behind × (good ≡ true)
-Spells kinds.Number good own behind = IsNumber own behind × (good ≡ not (is_name_byte (slice_index behind 0)))
-Spells kinds.Text good own behind = (s : Segment) × (own ≡ spelled s) × IsSegment s behind × (good ≡ is_closed s)
-Spells kinds.Binary good own behind = IsLiteral kinds.Binary good own behind
-Spells kinds.Hexadecimal good own behind = IsLiteral kinds.Hexadecimal good own behind
-Spells kinds.Mark good own behind = IsMark own behind × (good ≡ is_mark_spelling own)
-Spells kinds.Hex4 good own behind = IsCheckWord good own behind
+Spells kinds.Word good own after = IsWord own after × (good ≡ true)
+Spells kinds.Number good own after = IsNumber own after × (good ≡ not (is_name_byte (slice_index after 0)))
+Spells kinds.Text good own after = (s : Segment) × (own ≡ spelled s) × IsSegment s after × (good ≡ is_closed s)
+Spells kinds.Binary good own after = IsLiteral kinds.Binary good own after
+Spells kinds.Hexadecimal good own after = IsLiteral kinds.Hexadecimal good own after
+Spells kinds.Mark good own after = IsMark own after × (good ≡ is_mark_spelling own)
+Spells kinds.Hex4 good own after = IsCheckWord good own after
 
 -- The kind of the token that begins with this byte. What is none of the other tokens is a mark, good or bad.
 abbrev pub kind_of : ℕ → TokenKind
@@ -186,7 +186,7 @@ pub record Lexeme : Type 0 where
 
 -- Between two places of the text stand white space and comments, and then this token.
 pub record BeginsWith (text : List ℕ) (first : Option Bool) (at limit : ℕ) (lexeme : Lexeme) : Type 0 where
-  pub behind : at ≤ lexeme.token.start
+  pub after : at ≤ lexeme.token.start
   pub some : lexeme.token.start < lexeme.token.end
   pub within : lexeme.token.end ≤ limit
   pub blank : AreBlanks (slice_range text at limit) (slice_range text lexeme.token.start limit)

@@ -3,12 +3,11 @@
 use Rattle.std.specs.Prelude.{◌≡◌, ℕ, ◌+◌, ◌<◌, ◌≤◌, List, [], ◌∷◌, Bool, true, false, ◌||◌, ◌==◌, if◌then◌else◌, length, take, count_by, take_while, slice_index, slice_get, IfSome}
 use Rattle.std.specs.List.{list_all, slice_split, AllAdjacentBelow}
 use Rattle.stapl_lexer.specs.declared.piece.Piece.{Piece}
-use Rattle.stapl_lexer.specs.declared.cutting.TheConstants.{TEXT_LIMIT}
 use Rattle.stapl_lexer.specs.Segments.{Segment, Plain, Closed, Open, Comment, spelling, Divides}
 
 -- the most bytes of a text, which is this profile's limit
 abbrev pub text_limit : ℕ
-text_limit = TEXT_LIMIT
+text_limit = 4194304
 
 -- white space: space, tab, line feed, form feed, carriage return
 abbrev pub is_white : ℕ → Bool

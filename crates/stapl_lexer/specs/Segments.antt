@@ -50,7 +50,7 @@ IsSegment (Comment bytes) rest = (HasNone ends_comment bytes) × EndsLine rest
 abbrev pub Divides : List Segment → List ℕ → List ℕ → Type 0
 Divides [] text rest = text ≡ rest
 Divides (s ∷ ss) text rest =
-    (behind : List ℕ) × (text ≡ spelled s ++ behind) × IsSegment s behind × Divides ss behind rest
+    (after : List ℕ) × (text ≡ spelled s ++ after) × IsSegment s after × Divides ss after rest
 
 -- the bytes of all segments
 abbrev pub spelling : List Segment → List ℕ

@@ -48,8 +48,8 @@ pub record IsSpacedUpTo (kind : TokenKind) (bytes : List ℕ) (end count : ℕ) 
   pub few : count ≤ end
   pub digits : List ℕ
   pub count_is : count ≡ length digits
-  pub forward : (more behind : List ℕ) → SpacedDigits kind (drop end bytes) more behind →
-      SpacedDigits kind bytes (digits ++ more) behind
+  pub forward : (more after : List ℕ) → SpacedDigits kind (drop end bytes) more after →
+      SpacedDigits kind bytes (digits ++ more) after
 
 -- all digits of a literal are read
 pub record IsSpacedFront (kind : TokenKind) (bytes : List ℕ) (end count : ℕ) : Type 0 where

@@ -1,13 +1,13 @@
 //! The check word of a text.
 ghost use Rattle.std.specs.Prelude.{◌≡◌};
-ghost use Rattle.stapl_lexer.specs.Crc.{remainder_behind, remainder, bits_of_byte, check_word};
+ghost use Rattle.stapl_lexer.specs.Crc.{remainder_after, remainder, bits_of_byte, check_word};
 
 // The CCITT polynomial with its bits reversed.
 const POLYNOMIAL: u16 = 0x8408;
 
 // The remainder after one more bit.
-fn behind_bit(crc: u16, bit: bool) -> u16
-    ensures { result ≡ remainder_behind crc bit }
+fn after_bit(crc: u16, bit: bool) -> u16
+    ensures { result ≡ remainder_after crc bit }
 {
     let half = crc >> 1;
     if (crc % 2 == 1) == bit {
@@ -18,7 +18,7 @@ fn behind_bit(crc: u16, bit: bool) -> u16
 }
 
 // The remainder after the bits of one more byte, the lowest first. A carriage return has none.
-fn behind_byte(mut crc: u16, byte: u8) -> u16
+fn after_byte(mut crc: u16, byte: u8) -> u16
     ensures { result ≡ remainder crc (bits_of_byte byte) }
 {
     if byte == b'\r' {
@@ -26,7 +26,7 @@ fn behind_byte(mut crc: u16, byte: u8) -> u16
     }
     let mut bits = byte;
     for _turn in 0..8u32 {
-        crc = behind_bit(crc, bits % 2 == 1);
+        crc = after_bit(crc, bits % 2 == 1);
         bits /= 2;
     }
     crc
@@ -40,7 +40,7 @@ pub fn crc_of(bytes: &[u8]) -> u16
 {
     let mut crc = u16::MAX;
     for byte in bytes {
-        crc = behind_byte(crc, *byte);
+        crc = after_byte(crc, *byte);
     }
     !crc
 }

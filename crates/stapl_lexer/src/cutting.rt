@@ -35,12 +35,12 @@ fn comment_end(bytes: &[u8]) -> Option<usize>
 
 // How much of a string stands after its first quote.
 #[tactic(auto, using(crate::proofs::SegmentLemmas::position_or_length, crate::proofs::SegmentLemmas::position_within, crate::proofs::SegmentLemmas::closed_begins, crate::proofs::SegmentLemmas::open_begins))]
-fn string_len(behind: &[u8]) -> usize
-    ensures within { result ≤ length behind.now }
-    ensures string { BeginsWithSegment (34 ∷ behind.now) (result + 1) }
+fn string_len(after: &[u8]) -> usize
+    ensures within { result ≤ length after.now }
+    ensures string { BeginsWithSegment (34 ∷ after.now) (result + 1) }
 {
-    let n = string_end(behind).unwrap_or(behind.len());
-    if n < behind.len() && behind[n] == b'"' {
+    let n = string_end(after).unwrap_or(after.len());
+    if n < after.len() && after[n] == b'"' {
         n + 1
     } else {
         n
@@ -49,11 +49,11 @@ fn string_len(behind: &[u8]) -> usize
 
 // How much of a comment stands after its apostrophe.
 #[tactic(auto, using(crate::proofs::SegmentLemmas::position_or_length, crate::proofs::SegmentLemmas::position_within, crate::proofs::SegmentLemmas::comment_begins))]
-fn comment_len(behind: &[u8]) -> usize
-    ensures within { result ≤ length behind.now }
-    ensures comment { BeginsWithSegment (39 ∷ behind.now) (result + 1) }
+fn comment_len(after: &[u8]) -> usize
+    ensures within { result ≤ length after.now }
+    ensures comment { BeginsWithSegment (39 ∷ after.now) (result + 1) }
 {
-    comment_end(behind).unwrap_or(behind.len())
+    comment_end(after).unwrap_or(after.len())
 }
 
 /// How many bytes the first segment of some bytes has: a string with its quotes, a comment with its apostrophe, or one
@@ -65,10 +65,10 @@ pub fn segment_len(rest: &[u8]) -> usize
     ensures some { 0 < result }
     ensures segment { BeginsWithSegment rest.now result }
 {
-    let behind = &rest[1..];
+    let after = &rest[1..];
     match rest[0] {
-        b'"' => string_len(behind) + 1,
-        b'\'' => comment_len(behind) + 1,
+        b'"' => string_len(after) + 1,
+        b'\'' => comment_len(after) + 1,
         _ => 1,
     }
 }

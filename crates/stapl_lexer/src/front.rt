@@ -179,12 +179,12 @@ fn mark_front(bytes: &[u8]) -> Front
 }
 
 // Whether four digits are all that stands there: how many digits were read, and what stands after them.
-fn are_four_digits(count: usize, behind: &[u8]) -> bool
-    requires { length behind.now ≤ text_limit }
-    ensures yes { result ≡ true → (count ≡ 4) × AreBlanks behind.now [] }
-    ensures no { result ≡ false → count ≡ 4 → AreBlanks behind.now [] → ⊥ }
+fn are_four_digits(count: usize, after: &[u8]) -> bool
+    requires { length after.now ≤ text_limit }
+    ensures yes { result ≡ true → (count ≡ 4) × AreBlanks after.now [] }
+    ensures no { result ≡ false → count ≡ 4 → AreBlanks after.now [] → ⊥ }
 {
-    count == 4 && blank_len(behind) == behind.len()
+    count == 4 && blank_len(after) == after.len()
 }
 
 // What stands after the word CRC.

@@ -70,6 +70,6 @@ pub fn free_words_are_no_terminals()
 
 /// The digits of a literal are those of its bytes that stand outside comments.
 pub fn digits_of_a_literal()
-    ensures { (kind : TokenKind) (own behind digits : List ℕ) → SpacedDigits kind (own ++ behind) digits behind
+    ensures { (kind : TokenKind) (own after digits : List ℕ) → SpacedDigits kind (own ++ after) digits after
         → digits ≡ digits_in kind false own }
 {}

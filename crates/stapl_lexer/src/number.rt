@@ -58,8 +58,8 @@ pub(crate) fn number_in_front(bytes: &[u8]) -> (usize, u64)
     if !begins_exponent(&bytes[n..]) {
         return (n, value);
     }
-    let behind = &bytes[n + 1..];
-    let m = digits_len(behind);
-    let power = capped_digits(&behind[..m], CAP);
+    let after = &bytes[n + 1..];
+    let m = digits_len(after);
+    let power = capped_digits(&after[..m], CAP);
     (n + 1 + m, scaled(value, power))
 }

@@ -6,12 +6,12 @@ use Rattle.stapl_meaning.specs.States.{State, Leads, Led, happened_in_piece}
 use Rattle.stapl_code.specs.declared.instr.Instr.{Instr}
 use Rattle.stapl_code.specs.declared.raw.CodeLists.{CodeLists}
 use Rattle.stapl_code.specs.Machine.{Step, Falls, Stops, stretch, continues}
-use Rattle.stapl_code.specs.Ticks.{ticks, tick_of, counted_behind}
+use Rattle.stapl_code.specs.Ticks.{ticks, tick_of, counted_after}
 use Rattle.stapl_code.specs.Safe.{entries_of, constants_of}
 use Rattle.machine_memory.specs.declared.memory.Workspace.{Workspace}
 use Rattle.machine_memory.specs.Acts.{state_of, operands_of, step_of}
 use Rattle.stapl_machine.specs.Turns.{rest_of, ticks_from}
-use Rattle.stapl_machine.proofs.TurnLemmas.{behind, ticks_after, one_more, one_tick}
+use Rattle.stapl_machine.proofs.TurnLemmas.{after, ticks_after, one_more, one_tick}
 
 counted : (a s k t u : ℕ) → s ≡ a + k → u ≡ k + t → s + t ≡ a + u
 counted a s k t u e f = omega arith
@@ -24,26 +24,26 @@ module _ (code : CodeLists) (i : ℕ) (chosen : List ℕ) (work new : Workspace)
         (k : Chain) → rest_of code i chosen work k ≡ rest_of code (i + 1) chosen new k
     on_goes piece e k =
         one_more code i chosen work x inside is k
-        ∙ ap (λ (st : Step). happened_in_piece work.piece (continues k st (behind code i))) e
-        ∙ ap (λ (p : ℕ). happened_in_piece p (behind code i (operands_of new) (state_of chosen new) k)) (sym piece)
+        ∙ ap (λ (st : Step). happened_in_piece work.piece (continues k st (after code i))) e
+        ∙ ap (λ (p : ℕ). happened_in_piece p (after code i (operands_of new) (state_of chosen new) k)) (sym piece)
 
     pub on_counts : (before now : ℕ) → now ≡ before + tick_of x → step_of code i x chosen work ≡ Falls (operands_of new) (state_of chosen new) →
         (k : Chain) → now + ticks_from code (i + 1) chosen new k ≡ before + ticks_from code i chosen work k
     on_counts before now n e k =
         counted before now (tick_of x) _ _ n
-        (one_tick code i chosen work x inside is k ∙ ap (λ (st : Step). tick_of x + counted_behind k st (ticks_after code i)) e)
+        (one_tick code i chosen work x inside is k ∙ ap (λ (st : Step). tick_of x + counted_after k st (ticks_after code i)) e)
 
     -- it is done, and led to the turn at a place
     pub to_goes : (place : ℕ) → step_of code i x chosen work ≡ Stops [] (Leads [] place (state_of chosen new)) →
         (k : Chain) → rest_of code i chosen work k ≡ Led [] place (state_of chosen new) k
     to_goes place e k =
-        one_more code i chosen work x inside is k ∙ ap (λ (st : Step). happened_in_piece work.piece (continues k st (behind code i))) e
+        one_more code i chosen work x inside is k ∙ ap (λ (st : Step). happened_in_piece work.piece (continues k st (after code i))) e
 
     pub to_counts : (place before now : ℕ) → now ≡ before + tick_of x → step_of code i x chosen work ≡ Stops [] (Leads [] place (state_of chosen new)) →
         (k : Chain) → now + 0 ≡ before + ticks_from code i chosen work k
     to_counts place before now n e k =
         counted before now (tick_of x) 0 _ n
-        (one_tick code i chosen work x inside is k ∙ ap (λ (st : Step). tick_of x + counted_behind k st (ticks_after code i)) e)
+        (one_tick code i chosen work x inside is k ∙ ap (λ (st : Step). tick_of x + counted_after k st (ticks_after code i)) e)
 
   -- it is not done
   pub not_goes : new.piece ≡ work.piece → operands_of new ≡ operands_of work → state_of chosen new ≡ state_of chosen work →

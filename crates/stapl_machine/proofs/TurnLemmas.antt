@@ -15,7 +15,7 @@ use Rattle.stapl_code.specs.declared.instr.Instr.{Instr}
 use Rattle.stapl_code.specs.declared.instr.Instr.TheVariants.{Turn}
 use Rattle.stapl_code.specs.declared.raw.CodeLists.{CodeLists}
 use Rattle.stapl_code.specs.Machine.{Constants, step, stretch, begins, continues}
-use Rattle.stapl_code.specs.Ticks.{ticks, begin_ticks, tick_of, counted_scan, counted_behind}
+use Rattle.stapl_code.specs.Ticks.{ticks, begin_ticks, tick_of, counted_scan, counted_after}
 use Rattle.stapl_code.specs.Safe.{entries_of, constants_of}
 use Rattle.stapl_code.proofs.Preceded.{with_nothing, with_both}
 use Rattle.machine_memory.specs.declared.memory.Workspace.{Workspace}
@@ -145,8 +145,8 @@ module _ {C O : Type 0} (breakage : PinCable C O → Breakage) (board : C → Op
       rest = λ more. let k = chain_before breakage board makes shown a d.clocks more in with_events (d.rest more) (go (lands (captured_on k scan)) (deeds_chain k (Scans scan ∷ [])));
       does = λ more.
           (let k = chain_before breakage board makes shown a d.clocks more in
-          let behind_it : Happened = go (lands (captured_on k scan)) (deeds_chain k (Scans scan ∷ [])) in
-          stable_is k e ∙ ap (λ (es : List Event). with_events es behind_it) (d.happened more) ∙ sym (with_both d.events (d.rest more) behind_it));
+          let after_it : Happened = go (lands (captured_on k scan)) (deeds_chain k (Scans scan ∷ [])) in
+          stable_is k e ∙ ap (λ (es : List Event). with_events es after_it) (d.happened more) ∙ sym (with_both d.events (d.rest more) after_it));
       most = λ more.
           (let k = chain_before breakage board makes shown a d.clocks more in
           let counted : now + left (lands (captured_on k scan)) (deed_chain k (Scans scan)) ≡ steps + count k = stable_counts k e in
@@ -223,36 +223,36 @@ tick_most a s t u v e f = omega arith
 
 -- the first instruction of the rest of a turn
 module _ (code : CodeLists) (i : ℕ) where
-  abbrev pub behind : List Value → State → Chain → Happened
-  behind ops s k = stretch (entries_of code.procedures) (constants_of code) (length code.instrs) (drop (i + 1) code.instrs) ops s k
+  abbrev pub after : List Value → State → Chain → Happened
+  after ops s k = stretch (entries_of code.procedures) (constants_of code) (length code.instrs) (drop (i + 1) code.instrs) ops s k
 
   abbrev pub ticks_after : List Value → State → Chain → ℕ
   ticks_after ops s k = ticks (entries_of code.procedures) (constants_of code) (length code.instrs) (drop (i + 1) code.instrs) ops s k
 
   module _ (chosen : List ℕ) (work : Workspace) (x : Instr) (inside : i < length code.instrs) (is : x ≡ get_or code.instrs i x) where
-    pub one_more : (k : Chain) → rest_of code i chosen work k ≡ happened_in_piece work.piece (continues k (step_of code i x chosen work) behind)
+    pub one_more : (k : Chain) → rest_of code i chosen work k ≡ happened_in_piece work.piece (continues k (step_of code i x chosen work) after)
     one_more k =
         let here : length code.instrs - suc (length (drop (i + 1) code.instrs)) ≡ i = omega (arith, length-drop (i + 1) code.instrs) in
         let s = state_of chosen work in let ops = operands_of work in let entries = entries_of code.procedures in
         ap (λ l. happened_in_piece work.piece (stretch entries (constants_of code) (length code.instrs) l ops s k)) (drop_more code.instrs i x inside)
-        ∙ ap (λ h. happened_in_piece work.piece (continues k (step entries (constants_of code) h (get_or code.instrs i x) ops s) behind)) here
-        ∙ ap (λ y. happened_in_piece work.piece (continues k (step_of code i y chosen work) behind)) (sym is)
+        ∙ ap (λ h. happened_in_piece work.piece (continues k (step entries (constants_of code) h (get_or code.instrs i x) ops s) after)) here
+        ∙ ap (λ y. happened_in_piece work.piece (continues k (step_of code i y chosen work) after)) (sym is)
 
-    pub one_tick : (k : Chain) → ticks_from code i chosen work k ≡ tick_of x + counted_behind k (step_of code i x chosen work) ticks_after
+    pub one_tick : (k : Chain) → ticks_from code i chosen work k ≡ tick_of x + counted_after k (step_of code i x chosen work) ticks_after
     one_tick k =
         let here : length code.instrs - suc (length (drop (i + 1) code.instrs)) ≡ i = omega (arith, length-drop (i + 1) code.instrs) in
         let s = state_of chosen work in let ops = operands_of work in let entries = entries_of code.procedures in
         ap (λ l. ticks entries (constants_of code) (length code.instrs) l ops s k) (drop_more code.instrs i x inside)
-        ∙ ap (λ h. tick_of (get_or code.instrs i x) + counted_behind k (step entries (constants_of code) h (get_or code.instrs i x) ops s) ticks_after) here
-        ∙ ap (λ y. tick_of y + counted_behind k (step_of code i y chosen work) ticks_after) (sym is)
+        ∙ ap (λ h. tick_of (get_or code.instrs i x) + counted_after k (step entries (constants_of code) h (get_or code.instrs i x) ops s) ticks_after) here
+        ∙ ap (λ y. tick_of y + counted_after k (step_of code i y chosen work) ticks_after) (sym is)
 
     -- where the instruction leads
     module _ (new : Workspace) (m n : Moved) (same : m ≡ n) where
       pub goes : ((k : Chain) (go : List Value → State → Chain → Happened) → happened_in_piece work.piece (continues k (step_of code i x chosen work) go) ≡ moved_to code x m chosen new k go) →
-          (k : Chain) → rest_of code i chosen work k ≡ moved_to code x n chosen new k behind
-      goes leads k = one_more k ∙ leads k behind ∙ ap (λ (o : Moved). moved_to code x o chosen new k behind) same
+          (k : Chain) → rest_of code i chosen work k ≡ moved_to code x n chosen new k after
+      goes leads k = one_more k ∙ leads k after ∙ ap (λ (o : Moved). moved_to code x o chosen new k after) same
 
-      pub counts : ((k : Chain) (go : List Value → State → Chain → ℕ) → counted_behind k (step_of code i x chosen work) go ≡ moved_ticks code x m chosen new k go) →
+      pub counts : ((k : Chain) (go : List Value → State → Chain → ℕ) → counted_after k (step_of code i x chosen work) go ≡ moved_ticks code x m chosen new k go) →
           (before now : ℕ) → now ≡ before + tick_of x → (k : Chain) → now + moved_ticks code x n chosen new k ticks_after ≡ before + ticks_from code i chosen work k
       counts ticks before now e k =
           tick_on before now (tick_of x) _ _ _ e (one_tick k) (ticks k ticks_after ∙ ap (λ (o : Moved). moved_ticks code x o chosen new k ticks_after) same)

@@ -13,15 +13,15 @@ use Rattle.machine_memory.specs.RunRooms.{HoldsFrom}
 use Rattle.stapl_machine.specs.Turns.{rest_of, ticks_from, no_ticks}
 
 -- the rest of the turn after instruction i, which was tried, and how many instructions it takes
-abbrev pub behind_try : CodeLists → ℕ → List ℕ → Tried → Workspace → Chain → Happened
-behind_try code i chosen tried.On work = rest_of code (i + 1) chosen work
-behind_try code i chosen (tried.To place) work = Led [] place (state_of chosen work)
-behind_try code i chosen tried.Not work = rest_of code i chosen work
+abbrev pub after_try : CodeLists → ℕ → List ℕ → Tried → Workspace → Chain → Happened
+after_try code i chosen tried.On work = rest_of code (i + 1) chosen work
+after_try code i chosen (tried.To place) work = Led [] place (state_of chosen work)
+after_try code i chosen tried.Not work = rest_of code i chosen work
 
-abbrev pub ticks_behind_try : CodeLists → ℕ → List ℕ → Tried → Workspace → Chain → ℕ
-ticks_behind_try code i chosen tried.On work = ticks_from code (i + 1) chosen work
-ticks_behind_try code i chosen (tried.To place) work = no_ticks
-ticks_behind_try code i chosen tried.Not work = ticks_from code i chosen work
+abbrev pub ticks_after_try : CodeLists → ℕ → List ℕ → Tried → Workspace → Chain → ℕ
+ticks_after_try code i chosen tried.On work = ticks_from code (i + 1) chosen work
+ticks_after_try code i chosen (tried.To place) work = no_ticks
+ticks_after_try code i chosen tried.Not work = ticks_from code i chosen work
 
 -- what follows holds no more operands than there is room for, and before a turn no operand is left
 abbrev pub IsCleanTry : CodeLists → ℕ → Tried → Workspace → Type 0
@@ -30,15 +30,15 @@ IsCleanTry code i (tried.To place) work = work.operands.items ≡ []
 IsCleanTry code i tried.Not work = HoldsFrom code i work
 
 -- the same after some instructions
-abbrev pub behind_reached : CodeLists → List ℕ → Reached → Workspace → Chain → Happened
-behind_reached code chosen (reached.Within i) work = rest_of code i chosen work
-behind_reached code chosen (reached.Turn place) work = Led [] place (state_of chosen work)
-behind_reached code chosen reached.End work = λ k. Lacks []
+abbrev pub after_reached : CodeLists → List ℕ → Reached → Workspace → Chain → Happened
+after_reached code chosen (reached.Within i) work = rest_of code i chosen work
+after_reached code chosen (reached.Turn place) work = Led [] place (state_of chosen work)
+after_reached code chosen reached.End work = λ k. Lacks []
 
-abbrev pub ticks_behind_reached : CodeLists → List ℕ → Reached → Workspace → Chain → ℕ
-ticks_behind_reached code chosen (reached.Within i) work = ticks_from code i chosen work
-ticks_behind_reached code chosen (reached.Turn place) work = no_ticks
-ticks_behind_reached code chosen reached.End work = no_ticks
+abbrev pub ticks_after_reached : CodeLists → List ℕ → Reached → Workspace → Chain → ℕ
+ticks_after_reached code chosen (reached.Within i) work = ticks_from code i chosen work
+ticks_after_reached code chosen (reached.Turn place) work = no_ticks
+ticks_after_reached code chosen reached.End work = no_ticks
 
 -- An instruction that is reached is one of the code and none before the first one, and what follows holds no more
 -- operands than there is room for; before a turn no operand is left.

@@ -29,13 +29,13 @@ abbrev pub no_ticks : Chain → ℕ
 no_ticks k = 0
 
 -- what follows an instruction, which may have ended the turn
-abbrev pub behind_it : CodeLists → ℕ → List ℕ → Workspace → Option Went → Chain → Happened
-behind_it code i chosen work None = rest_of code (i + 1) chosen work
-behind_it code i chosen work (Some went) = led_on went (state_of chosen work)
+abbrev pub after_it : CodeLists → ℕ → List ℕ → Workspace → Option Went → Chain → Happened
+after_it code i chosen work None = rest_of code (i + 1) chosen work
+after_it code i chosen work (Some went) = led_on went (state_of chosen work)
 
-abbrev pub ticks_behind_it : CodeLists → ℕ → List ℕ → Workspace → Option Went → Chain → ℕ
-ticks_behind_it code i chosen work None = ticks_from code (i + 1) chosen work
-ticks_behind_it code i chosen work (Some went) = no_ticks
+abbrev pub ticks_after_it : CodeLists → ℕ → List ℕ → Workspace → Option Went → Chain → ℕ
+ticks_after_it code i chosen work None = ticks_from code (i + 1) chosen work
+ticks_after_it code i chosen work (Some went) = no_ticks
 
 abbrev pub IsCleanBehind : CodeLists → ℕ → Option Went → Workspace → Type 0
 IsCleanBehind code i None work = HoldsFrom code (i + 1) work

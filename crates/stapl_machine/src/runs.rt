@@ -86,7 +86,7 @@ fn run_chosen<C: Cable, O: Paper, L: Ledger>(
 }
 
 // What follows the prologue of a play, which led there.
-fn run_behind<C: Cable, O: Paper, L: Ledger>(
+fn run_after<C: Cable, O: Paper, L: Ledger>(
     code: &CodeLists,
     chosen: &[u32],
     went: Went,
@@ -141,7 +141,7 @@ fn play<C: Cable, O: Paper, L: Ledger>(
 {
     work.next = 0;
     match rest_of_turn(code, chosen, 0, work, port, steps) {
-        Ok(went) => match run_behind(code, chosen, went, work, port, turns, steps) {
+        Ok(went) => match run_after(code, chosen, went, work, port, turns, steps) {
             Ok(ending) => Ok(ending),
             Err(trouble) => Err(trouble),
         },

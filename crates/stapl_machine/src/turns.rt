@@ -11,8 +11,8 @@ ghost use Rattle.stapl_instructions.specs.Moves.{led_on, IsClean};
 ghost use Rattle.written_cable.specs.Pins.{tap_of, port_breakage};
 ghost use Rattle.machine_memory.specs.RunRooms.{HasRoom, HoldsFrom, KeepsRoom};
 ghost use Rattle.written_cable.specs.Ports.{IsInStep, IsKept, Did, DidFront, DidScan, Captured, IsDone, Keeps};
-ghost use Rattle.stapl_machine.specs.Reaches.{behind_try, ticks_behind_try, IsCleanTry, behind_reached, ticks_behind_reached, IsReached};
-ghost use Rattle.stapl_machine.specs.Turns.{rest_of, ticks_from, no_ticks, behind_it, ticks_behind_it, IsCleanBehind, piece_of, turn_at, ticks_at};
+ghost use Rattle.stapl_machine.specs.Reaches.{after_try, ticks_after_try, IsCleanTry, after_reached, ticks_after_reached, IsReached};
+ghost use Rattle.stapl_machine.specs.Turns.{rest_of, ticks_from, no_ticks, after_it, ticks_after_it, IsCleanBehind, piece_of, turn_at, ticks_at};
 
 use base::Steps;
 use machine_memory::effects::{Doing, ScanJob, Wait};
@@ -272,7 +272,7 @@ fn carry_out<C: Cable, O: Paper, L: Ledger>(
     requires few { HoldsFrom code.now i work.old }
     ensures does { IsDone (port_breakage C.breakage O.failed) C.board C.made O.shown
         (rest_of code.now i chosen.now work.old) (ticks_from code.now i chosen.now work.old) port.old steps.old result
-        (behind_it code.now i chosen.now work.new) (ticks_behind_it code.now i chosen.now work.new) port.new steps.new }
+        (after_it code.now i chosen.now work.new) (ticks_after_it code.now i chosen.now work.new) port.new steps.new }
     ensures clean { IfOk result (λ end. IsCleanBehind code.now i end work.new) }
     ensures room { KeepsRoom work.old work.new }
     ensures keeps { Keeps (port_breakage C.breakage O.failed) C.board C.line_faults C.is_line_last
@@ -312,9 +312,9 @@ fn try_at<L: Ledger>(
     requires room { HasRoom code.now work.old }
     requires few { HoldsFrom code.now i work.old }
     ensures does { (chosen : List ℕ) (k : Chain) →
-        rest_of code.now i chosen work.old k ≡ behind_try code.now i chosen result work.new k }
+        rest_of code.now i chosen work.old k ≡ after_try code.now i chosen result work.new k }
     ensures ticks { (chosen : List ℕ) (k : Chain) →
-        steps.new + ticks_behind_try code.now i chosen result work.new k
+        steps.new + ticks_after_try code.now i chosen result work.new k
         ≡ steps.old + ticks_from code.now i chosen work.old k }
     ensures clean { IsCleanTry code.now i result work.new }
     ensures room { KeepsRoom work.old work.new }
@@ -357,9 +357,9 @@ fn carry_out_common<L: Ledger>(
     requires room { HasRoom code.now work.old }
     requires few { HoldsFrom code.now from work.old }
     ensures does { (chosen : List ℕ) (k : Chain) →
-        rest_of code.now from chosen work.old k ≡ behind_reached code.now chosen result work.new k }
+        rest_of code.now from chosen work.old k ≡ after_reached code.now chosen result work.new k }
     ensures ticks { (chosen : List ℕ) (k : Chain) →
-        steps.new + ticks_behind_reached code.now chosen result work.new k
+        steps.new + ticks_after_reached code.now chosen result work.new k
         ≡ steps.old + ticks_from code.now from chosen work.old k }
     ensures reached { IsReached code.now from result work.new }
     ensures room { KeepsRoom work.old work.new }

@@ -13,9 +13,9 @@ use Rattle.std.proofs.lemmas.Slice.Eq.{bytes_eq-Decides}
 use Rattle.stapl_lexer.specs.declared.reason.Reason.TheVariants as reasons
 use Rattle.stapl_syntax.specs.declared.names.Block.{Block}
 use Rattle.stapl_syntax.specs.Trees.{BodyTree, action, procedure, data_block, end_data, StmtTree}
-use Rattle.stapl_syntax.specs.Names.{numbered, numbered_from, inside_behind, inside_from, block_of_body, block_of, action_of_body, action_of, variable_of, label_of, declared_from, declared, names_of, put_first, firsts_behind}
+use Rattle.stapl_syntax.specs.Names.{numbered, numbered_from, inside_next, inside_from, block_of_body, block_of, action_of_body, action_of, variable_of, label_of, declared_from, declared, names_of, put_first, firsts_after}
 use Rattle.stapl_syntax.specs.Rules.{is_action, any_body, is_again, Declared, declared_in, declares_again}
-use Rattle.stapl_meaning.specs.Scopes.{data_behind, plays, idle, pieces_from, program_names, block_at}
+use Rattle.stapl_meaning.specs.Scopes.{data_after, plays, idle, pieces_from, program_names, block_at}
 use Rattle.stapl_meaning.specs.Typed.{procedure_name, procedure_names, plain_blocks, action_name, action_names}
 use Rattle.stapl_meaning.proofs.Entries.{name_same, all_declared, none_has_key}
 use Rattle.stapl_meaning.proofs.Sound.{IsSound}
@@ -35,27 +35,27 @@ module _ {V : Type 0} (declares : Option (List ℕ) → ℕ → StmtTree → Opt
   new_are_apart : (rest : List StmtTree) (now : Option (List ℕ)) (n : ℕ) → AreNew rest now n →
       AllPairs (λ a b. a ≢ b) (keys_of (declared_from declares now (numbered_from n (map Some rest))))
   new_are_apart [] now n new = λ i j d lt within. absurd (omega (arith, within))
-  new_are_apart (st ∷ rest) now n new = by (declares now n st) refl (new_are_apart rest (inside_behind now st.body) (n + 1))
+  new_are_apart (st ∷ rest) now n new = by (declares now n st) refl (new_are_apart rest (inside_next now st.body) (n + 1))
     where
       by : (o : Option (List ℕ × V)) → declares now n st ≡ o →
-          (AreNew rest (inside_behind now st.body) (n + 1) → AllPairs (λ a b. a ≢ b) (keys_of (declared_from declares (inside_behind now st.body) (numbered_from (n + 1) (map Some rest))))) →
-          AllPairs (λ a b. a ≢ b) (keys_of (cons_option o (declared_from declares (inside_behind now st.body) (numbered_from (n + 1) (map Some rest)))))
+          (AreNew rest (inside_next now st.body) (n + 1) → AllPairs (λ a b. a ≢ b) (keys_of (declared_from declares (inside_next now st.body) (numbered_from (n + 1) (map Some rest))))) →
+          AllPairs (λ a b. a ≢ b) (keys_of (cons_option o (declared_from declares (inside_next now st.body) (numbered_from (n + 1) (map Some rest)))))
       by None e more = more (λ i s x at is.
           let next : n + suc i ≡ n + 1 + i = omega arith in
-          sym (ap (λ o. list_any (λ y. bytes_eq x.0 y.0) (cons_option o (declared_from declares (inside_behind now st.body) (numbered_from (n + 1) (take i (map Some rest)))))) e)
-          ∙ new (suc i) s x at (ap (λ m. declares (inside_from (inside_behind now st.body) (numbered_from (n + 1) (take i (map Some rest)))) m s) next ∙ is))
+          sym (ap (λ o. list_any (λ y. bytes_eq x.0 y.0) (cons_option o (declared_from declares (inside_next now st.body) (numbered_from (n + 1) (take i (map Some rest)))))) e)
+          ∙ new (suc i) s x at (ap (λ m. declares (inside_from (inside_next now st.body) (numbered_from (n + 1) (take i (map Some rest)))) m s) next ∙ is))
       by (Some first) e more =
           let both : (i : ℕ) (s : StmtTree) (x : List ℕ × V) → slice_get rest i ≡ Some s →
-          declares (inside_from (inside_behind now st.body) (numbered_from (n + 1) (take i (map Some rest)))) (n + 1 + i) s ≡ Some x →
-          (bytes_eq x.0 first.0 ≡ false) × (list_any (λ y. bytes_eq x.0 y.0) (declared_from declares (inside_behind now st.body) (numbered_from (n + 1) (take i (map Some rest)))) ≡ false) =
+          declares (inside_from (inside_next now st.body) (numbered_from (n + 1) (take i (map Some rest)))) (n + 1 + i) s ≡ Some x →
+          (bytes_eq x.0 first.0 ≡ false) × (list_any (λ y. bytes_eq x.0 y.0) (declared_from declares (inside_next now st.body) (numbered_from (n + 1) (take i (map Some rest)))) ≡ false) =
           λ i s x at is.
           let next : n + suc i ≡ n + 1 + i = omega arith in
-          or_parts (bytes_eq x.0 first.0) (list_any (λ y. bytes_eq x.0 y.0) (declared_from declares (inside_behind now st.body) (numbered_from (n + 1) (take i (map Some rest)))))
-          (sym (ap (λ o. list_any (λ y. bytes_eq x.0 y.0) (cons_option o (declared_from declares (inside_behind now st.body) (numbered_from (n + 1) (take i (map Some rest)))))) e)
-          ∙ new (suc i) s x at (ap (λ m. declares (inside_from (inside_behind now st.body) (numbered_from (n + 1) (take i (map Some rest)))) m s) next ∙ is)) in
-          AllPairs-cons (λ a b. a ≢ b) first.0 (keys_of (declared_from declares (inside_behind now st.body) (numbered_from (n + 1) (map Some rest))))
-          (All-map (λ b. first.0 ≢ b) (λ (x : List ℕ × V). x.0) (declared_from declares (inside_behind now st.body) (numbered_from (n + 1) (map Some rest)))
-          (all_declared declares (λ (x : List ℕ × V). first.0 ≢ x.0) rest (inside_behind now st.body) (n + 1)
+          or_parts (bytes_eq x.0 first.0) (list_any (λ y. bytes_eq x.0 y.0) (declared_from declares (inside_next now st.body) (numbered_from (n + 1) (take i (map Some rest)))))
+          (sym (ap (λ o. list_any (λ y. bytes_eq x.0 y.0) (cons_option o (declared_from declares (inside_next now st.body) (numbered_from (n + 1) (take i (map Some rest)))))) e)
+          ∙ new (suc i) s x at (ap (λ m. declares (inside_from (inside_next now st.body) (numbered_from (n + 1) (take i (map Some rest)))) m s) next ∙ is)) in
+          AllPairs-cons (λ a b. a ≢ b) first.0 (keys_of (declared_from declares (inside_next now st.body) (numbered_from (n + 1) (map Some rest))))
+          (All-map (λ b. first.0 ≢ b) (λ (x : List ℕ × V). x.0) (declared_from declares (inside_next now st.body) (numbered_from (n + 1) (map Some rest)))
+          (all_declared declares (λ (x : List ℕ × V). first.0 ≢ x.0) rest (inside_next now st.body) (n + 1)
           (λ i s x at is same. true≢false (sym ((bytes_eq-Decides x.0 first.0).1 (sym same)) ∙ (both i s x at is).0))))
           (more (λ i s x at is. (both i s x at is).1))
 
@@ -98,14 +98,14 @@ plain_declared : (now inside : Option (List ℕ)) (n : ℕ) (rest : List StmtTre
     plain_blocks (declared_from block_of inside (numbered_from n (map Some rest))) ≡ procedure_names (pieces_from now rest)
 plain_declared now inside n [] outside = refl
 plain_declared now inside n (st ∷ rest) outside =
-    by now st.body (outside 0 st refl) (plain_declared (data_behind now st.body) (inside_behind inside st.body) (n + 1) rest (λ i s at begins. outside (suc i) s at begins))
-    ∙ ap (λ b. procedure_name b (procedure_names (pieces_from (data_behind now st.body) rest))) (sym (body_of (plays now st.body) st))
+    by now st.body (outside 0 st refl) (plain_declared (data_after now st.body) (inside_next inside st.body) (n + 1) rest (λ i s at begins. outside (suc i) s at begins))
+    ∙ ap (λ b. procedure_name b (procedure_names (pieces_from (data_after now st.body) rest))) (sym (body_of (plays now st.body) st))
   where
     others : List (List ℕ)
-    others = procedure_names (pieces_from (data_behind now st.body) rest)
+    others = procedure_names (pieces_from (data_after now st.body) rest)
 
     declared_more : List (List ℕ × Block)
-    declared_more = declared_from block_of (inside_behind inside st.body) (numbered_from (n + 1) (map Some rest))
+    declared_more = declared_from block_of (inside_next inside st.body) (numbered_from (n + 1) (map Some rest))
 
     by : (now : Option (List ℕ)) (b : BodyTree) → (BeginsOutside b → now ≡ None) → plain_blocks declared_more ≡ others →
         plain_blocks (cons_option (block_of_body n b) declared_more) ≡ procedure_name (if plays now b then b else end_data) others
@@ -119,13 +119,13 @@ actions_among : (now inside : Option (List ℕ)) (n : ℕ) (rest : List StmtTree
     IsAmong (action_names (pieces_from now rest)) (keys_of (declared_from action_of inside (numbered_from n (map Some rest))))
 actions_among now inside n [] = no_names
 actions_among now inside n (st ∷ rest) =
-    by (plays now st.body) st.body (actions_among (data_behind now st.body) (inside_behind inside st.body) (n + 1) rest)
+    by (plays now st.body) st.body (actions_among (data_after now st.body) (inside_next inside st.body) (n + 1) rest)
   where
     others : List (List ℕ)
-    others = action_names (pieces_from (data_behind now st.body) rest)
+    others = action_names (pieces_from (data_after now st.body) rest)
 
     declared_more : List (List ℕ × ℕ)
-    declared_more = declared_from action_of (inside_behind inside st.body) (numbered_from (n + 1) (map Some rest))
+    declared_more = declared_from action_of (inside_next inside st.body) (numbered_from (n + 1) (map Some rest))
 
     by : (c : Bool) (b : BodyTree) → IsAmong others (keys_of declared_more) →
         IsAmong (action_name (if c then record { label = st.label; body = b } else idle).body others) (keys_of (cons_option (action_of_body n b) declared_more))
@@ -179,10 +179,10 @@ not_there k (e ∷ es) differ = by (bytes_eq k e.0) refl (not_there k es (λ i b
     by true is more = absurd (differ 0 (omega arith) (sym (name_same k e.0 is)))
     by false is more = more
 
-firsts_apart : (xs es : List (List ℕ × Block)) → AllPairs (λ a b. a ≢ b) (keys_of (es ++ xs)) → firsts_behind bytes_eq es xs ≡ es ++ xs
+firsts_apart : (xs es : List (List ℕ × Block)) → AllPairs (λ a b. a ≢ b) (keys_of (es ++ xs)) → firsts_after bytes_eq es xs ≡ es ++ xs
 firsts_apart [] es apart = sym (append-nil es)
 firsts_apart (x ∷ xs) es apart =
-    ap (λ l. firsts_behind bytes_eq l xs) put
+    ap (λ l. firsts_after bytes_eq l xs) put
     ∙ firsts_apart xs (es ++ x ∷ []) (subst (λ (l : List (List ℕ × Block)). AllPairs (λ a b. a ≢ b) (keys_of l)) (sym joined) apart)
     ∙ joined
   where

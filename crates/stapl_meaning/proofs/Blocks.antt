@@ -10,16 +10,16 @@ use Rattle.std.proofs.lemmas.Option.{same_Some, none-some}
 use Rattle.stapl_lexer.specs.declared.reason.Reason.TheVariants as reasons
 use Rattle.stapl_syntax.specs.declared.names.Block.{Block}
 use Rattle.stapl_syntax.specs.Trees.{BodyTree, procedure, data_block, end_data, end_procedure, StmtTree}
-use Rattle.stapl_syntax.specs.Names.{numbered_from, numbered, inside_behind, inside_from, block_of_body, Names}
+use Rattle.stapl_syntax.specs.Names.{numbered_from, numbered, inside_next, inside_from, block_of_body, Names}
 use Rattle.stapl_syntax.specs.Rules.{Place, is_outside, may_stand, is_data_block, in_data_block, place_after}
-use Rattle.stapl_meaning.specs.Scopes.{data_behind, plays, idle, pieces_from, has_initial_value, Preset, preset_of, presets_from, program_names, block_at}
+use Rattle.stapl_meaning.specs.Scopes.{data_after, plays, idle, pieces_from, has_initial_value, Preset, preset_of, presets_from, program_names, block_at}
 use Rattle.stapl_meaning.proofs.Declared.{block_here}
 use Rattle.stapl_meaning.proofs.Sound.{IsSound}
 
 -- the DATA block that is open after these statements
 abbrev pub data_from : Option (List ℕ) → List StmtTree → Option (List ℕ)
 data_from now [] = now
-data_from now (st ∷ rest) = data_from (data_behind now st.body) rest
+data_from now (st ∷ rest) = data_from (data_after now st.body) rest
 
 -- ---- the pieces, place by place
 
@@ -34,26 +34,26 @@ stands_for now [] i piece at = absurd (none-some piece at)
 stands_for now (st ∷ rest) zero piece at =
     record { statement = st; at = refl; is = sym (same_Some (if plays now st.body then st else idle) piece at) }
 stands_for now (st ∷ rest) (suc i) piece at =
-    let more = stands_for (data_behind now st.body) rest i piece at in
+    let more = stands_for (data_after now st.body) rest i piece at in
     record { statement = more.statement; at = more.at; is = more.is }
 
 piece_from : (now : Option (List ℕ)) (rest : List StmtTree) (i : ℕ) (st : StmtTree) → slice_get rest i ≡ Some st →
     slice_get (pieces_from now rest) i ≡ Some (if plays (data_from now (take i rest)) st.body then st else idle)
 piece_from now [] i st at = absurd (none-some st at)
 piece_from now (x ∷ rest) zero st at = ap (λ (s : StmtTree). Some (if plays now s.body then s else idle)) (same_Some x st at)
-piece_from now (x ∷ rest) (suc i) st at = piece_from (data_behind now x.body) rest i st at
+piece_from now (x ∷ rest) (suc i) st at = piece_from (data_after now x.body) rest i st at
 
 -- there are as many
 pub same_count : (now : Option (List ℕ)) (rest : List StmtTree) → length (pieces_from now rest) ≡ length rest
 same_count now [] = refl
-same_count now (st ∷ rest) = ap suc (same_count (data_behind now st.body) rest)
+same_count now (st ∷ rest) = ap suc (same_count (data_after now st.body) rest)
 
 -- no DATA is left, and what holds of each statement and of an idle one holds of each piece
 pub all_pieces : (P : StmtTree → Type 0) → P idle → ((now : Option (List ℕ)) (st : StmtTree) → plays now st.body ≡ true → P st) →
     (now : Option (List ℕ)) (rest : List StmtTree) → All P (pieces_from now rest)
 all_pieces P none each now [] = All-nil P
 all_pieces P none each now (st ∷ rest) =
-    All-cons P (if plays now st.body then st else idle) (pieces_from (data_behind now st.body) rest) (by (plays now st.body) refl) (all_pieces P none each (data_behind now st.body) rest)
+    All-cons P (if plays now st.body then st else idle) (pieces_from (data_after now st.body) rest) (by (plays now st.body) refl) (all_pieces P none each (data_after now st.body) rest)
   where
     by : (b : Bool) → plays now st.body ≡ b → P (if b then st else idle)
     by true e = each now st e
@@ -66,12 +66,12 @@ abbrev pub unless : Option (List ℕ) → Option (List ℕ) → Option (List ℕ
 unless None inside = inside
 unless (Some block) inside = None
 
-behind_piece : (now inside : Option (List ℕ)) (b : BodyTree) → inside_behind (unless now inside) (if plays now b then b else end_data) ≡ unless (data_behind now b) (inside_behind inside b)
-behind_piece None inside (data_block name) = refl
-behind_piece None inside end_data = refl
-behind_piece None inside _ = refl
-behind_piece (Some block) inside end_data = refl
-behind_piece (Some block) inside _ = refl
+after_piece : (now inside : Option (List ℕ)) (b : BodyTree) → inside_next (unless now inside) (if plays now b then b else end_data) ≡ unless (data_after now b) (inside_next inside b)
+after_piece None inside (data_block name) = refl
+after_piece None inside end_data = refl
+after_piece None inside _ = refl
+after_piece (Some block) inside end_data = refl
+after_piece (Some block) inside _ = refl
 
 pub body_of : (c : Bool) (st : StmtTree) → (if c then st else idle).body ≡ (if c then st.body else end_data)
 body_of true st = refl
@@ -83,9 +83,9 @@ blocks_from : (now inside : Option (List ℕ)) (n : ℕ) (rest : List StmtTree) 
 blocks_from now inside n rest zero = refl
 blocks_from now inside n [] (suc i) = refl
 blocks_from now inside n (st ∷ rest) (suc i) =
-    ap (λ o. inside_from o (numbered_from (n + 1) (take i (map Some (pieces_from (data_behind now st.body) rest)))))
-    (ap (inside_behind (unless now inside)) (body_of (plays now st.body) st) ∙ behind_piece now inside st.body)
-    ∙ blocks_from (data_behind now st.body) (inside_behind inside st.body) (n + 1) rest i
+    ap (λ o. inside_from o (numbered_from (n + 1) (take i (map Some (pieces_from (data_after now st.body) rest)))))
+    (ap (inside_next (unless now inside)) (body_of (plays now st.body) st) ∙ after_piece now inside st.body)
+    ∙ blocks_from (data_after now st.body) (inside_next inside st.body) (n + 1) rest i
 
 pub block_of_piece : (program : List StmtTree) (i : ℕ) → block_at (pieces_from None program) i ≡ unless (data_from None (take i program)) (block_at program i)
 block_of_piece program i = blocks_from None None 1 program i
@@ -112,7 +112,7 @@ inside_no_data some in_data e = not-true in_data (and_parts some (not in_data) e
 pub aligned_next : (names : Names) (p : Place) (now inside label : Option (List ℕ)) (body : BodyTree) (n : ℕ) →
     p.in_data ≡ in_data_block names inside → p.in_procedure ≡ (is_some inside && not (in_data_block names inside)) → may_stand p label body ≡ true →
     ((e : List ℕ × Block) → block_of_body n body ≡ Some e → lookup (bytes_eq e.0) names.blocks ≡ Some e.1) →
-    IsAligned names now inside → IsAligned names (data_behind now body) (inside_behind inside body)
+    IsAligned names now inside → IsAligned names (data_after now body) (inside_next inside body)
 aligned_next names p now inside label (procedure name uses) n kept own may blocks aligned =
     let none = none_open names now inside aligned (sym kept ∙ outside_no_data p (not p.after_crc) may) in
     subst (λ o. IsAligned names o (Some name)) (sym none)
@@ -127,16 +127,16 @@ aligned_next names p now inside label body n kept own may blocks aligned = align
 
 -- one statement more
 pub inside_step : (now : Option (List ℕ)) (n : ℕ) (rest : List StmtTree) (i : ℕ) (st : StmtTree) → slice_get rest i ≡ Some st →
-    inside_from now (numbered_from n (take (suc i) (map Some rest))) ≡ inside_behind (inside_from now (numbered_from n (take i (map Some rest)))) st.body
+    inside_from now (numbered_from n (take (suc i) (map Some rest))) ≡ inside_next (inside_from now (numbered_from n (take i (map Some rest)))) st.body
 inside_step now n [] i st at = absurd (none-some st at)
-inside_step now n (x ∷ rest) zero st at = ap (λ (s : StmtTree). inside_behind now s.body) (same_Some x st at)
-inside_step now n (x ∷ rest) (suc i) st at = inside_step (inside_behind now x.body) (n + 1) rest i st at
+inside_step now n (x ∷ rest) zero st at = ap (λ (s : StmtTree). inside_next now s.body) (same_Some x st at)
+inside_step now n (x ∷ rest) (suc i) st at = inside_step (inside_next now x.body) (n + 1) rest i st at
 
 data_step : (now : Option (List ℕ)) (rest : List StmtTree) (i : ℕ) (st : StmtTree) → slice_get rest i ≡ Some st →
-    data_from now (take (suc i) rest) ≡ data_behind (data_from now (take i rest)) st.body
+    data_from now (take (suc i) rest) ≡ data_after (data_from now (take i rest)) st.body
 data_step now [] i st at = absurd (none-some st at)
-data_step now (x ∷ rest) zero st at = ap (λ (s : StmtTree). data_behind now s.body) (same_Some x st at)
-data_step now (x ∷ rest) (suc i) st at = data_step (data_behind now x.body) rest i st at
+data_step now (x ∷ rest) zero st at = ap (λ (s : StmtTree). data_after now s.body) (same_Some x st at)
+data_step now (x ∷ rest) (suc i) st at = data_step (data_after now x.body) rest i st at
 
 one_before : (rest : List StmtTree) (i : ℕ) (st : StmtTree) → slice_get rest (suc i) ≡ Some st → (s : StmtTree) × (slice_get rest i ≡ Some s)
 one_before [] i st at = absurd (none-some st at)
@@ -162,7 +162,7 @@ module _ (program : List StmtTree) (sound : IsSound program) where
       let next = aligned_next (program_names program) (place_at i) (data_at i) (block_at program i) before.0.label before.0.body (1 + i) refl refl
       (stands_well i before.0 before.1) (block_here program sound i before.0 before.1) (aligned_at i before.0 before.1) in
       subst (λ o. IsAligned (program_names program) o (block_at program (suc i))) (sym (data_step None program i before.0 before.1))
-      (subst (IsAligned (program_names program) (data_behind (data_at i) before.0.body)) (sym (inside_step None 1 program i before.0 before.1)) next)
+      (subst (IsAligned (program_names program) (data_after (data_at i) before.0.body)) (sym (inside_step None 1 program i before.0 before.1)) next)
 
   -- if no DATA block is open by the rules, none is open
   pub none_at : (i : ℕ) (st : StmtTree) → slice_get program i ≡ Some st → in_data_block (program_names program) (block_at program i) ≡ false → data_at i ≡ None
@@ -225,8 +225,8 @@ pub all_presets : (P : Preset → Type 0) (rest : List StmtTree) (now : Option (
     All (λ o. IfSome o P) (presets_from now rest)
 all_presets P [] now each = All-nil (λ (o : Option Preset). IfSome o P)
 all_presets P (st ∷ rest) now each =
-    All-cons (λ (o : Option Preset). IfSome o P) (preset_of now st.body) (presets_from (data_behind now st.body) rest) (own (preset_of now st.body) refl)
-    (all_presets P rest (data_behind now st.body) (λ i s preset at is. each (suc i) s preset at is))
+    All-cons (λ (o : Option Preset). IfSome o P) (preset_of now st.body) (presets_from (data_after now st.body) rest) (own (preset_of now st.body) refl)
+    (all_presets P rest (data_after now st.body) (λ i s preset at is. each (suc i) s preset at is))
   where
     own : (o : Option Preset) → preset_of now st.body ≡ o → IfSome o P
     own None e = tt

@@ -16,7 +16,7 @@ use Rattle.stapl_syntax.specs.declared.names.Key.{Key}
 use Rattle.stapl_syntax.specs.declared.names.Variable.{Variable}
 use Rattle.stapl_syntax.specs.declared.names.Block.{Block}
 use Rattle.stapl_syntax.specs.Trees.{BodyTree, procedure, data_block, StmtTree}
-use Rattle.stapl_syntax.specs.Names.{numbered_from, numbered, inside_behind, inside_from, declaration, key_in, variable_entry, variable_in, variable_of, block_of_body, block_of, action_of, label_of, declared_from, declared, put_first, firsts_behind, firsts, key_eq, Names, names_of, block_named, found_in, found_from, kind_of_found}
+use Rattle.stapl_syntax.specs.Names.{numbered_from, numbered, inside_next, inside_from, declaration, key_in, variable_entry, variable_in, variable_of, block_of_body, block_of, action_of, label_of, declared_from, declared, put_first, firsts_after, firsts, key_eq, Names, names_of, block_named, found_in, found_from, kind_of_found}
 use Rattle.stapl_syntax.specs.Rules.{is_again, Declared, declared_in, declares_again}
 use Rattle.stapl_meaning.specs.Scopes.{program_names, as_played, block_at, number_found, lookup_from}
 use Rattle.stapl_meaning.specs.Typed.{IsDeclared}
@@ -32,28 +32,28 @@ declared_parts : {K V : Type 0} (declares : Option (List ℕ) → ℕ → StmtTr
     (more : List (K × V)) × (declared_from declares now (numbered_from n (map Some rest)) ≡ declared_from declares now (numbered_from n (take i (map Some rest))) ++ (e ∷ more))
 declared_parts declares [] now n i st e at is = absurd (none-some st at)
 declared_parts declares (s ∷ rest) now n zero st e at is =
-    let more = declared_from declares (inside_behind now s.body) (numbered_from (n + 1) (map Some rest)) in
+    let more = declared_from declares (inside_next now s.body) (numbered_from (n + 1) (map Some rest)) in
     let first : n ≡ n + 0 = omega arith in
     (more, ap (λ o. cons_option o more) (ap (declares now n) (same_Some s st at) ∙ ap (λ m. declares now m st) first ∙ is))
 declared_parts declares (s ∷ rest) now n (suc i) st e at is =
     let next : n + 1 + i ≡ n + suc i = omega arith in
-    let front = declared_from declares (inside_behind now s.body) (numbered_from (n + 1) (take i (map Some rest))) in
-    let parts = declared_parts declares rest (inside_behind now s.body) (n + 1) i st e at
-    (ap (λ m. declares (inside_from (inside_behind now s.body) (numbered_from (n + 1) (take i (map Some rest)))) m st) next ∙ is) in
+    let front = declared_from declares (inside_next now s.body) (numbered_from (n + 1) (take i (map Some rest))) in
+    let parts = declared_parts declares rest (inside_next now s.body) (n + 1) i st e at
+    (ap (λ m. declares (inside_from (inside_next now s.body) (numbered_from (n + 1) (take i (map Some rest)))) m st) next ∙ is) in
     (parts.0, ap (cons_option (declares now n s)) parts.1 ∙ cons_front (declares now n s) front (e ∷ parts.0))
 
 module _ {K V : Type 0} (eq : K → K → Bool) where
-  pub behind_append : (xs ys es : List (K × V)) → firsts_behind eq es (xs ++ ys) ≡ firsts_behind eq (firsts_behind eq es xs) ys
-  behind_append [] ys es = refl
-  behind_append (x ∷ xs) ys es = behind_append xs ys (put_first eq es x)
+  pub after_append : (xs ys es : List (K × V)) → firsts_after eq es (xs ++ ys) ≡ firsts_after eq (firsts_after eq es xs) ys
+  after_append [] ys es = refl
+  after_append (x ∷ xs) ys es = after_append xs ys (put_first eq es x)
 
   -- entries that are put leave those before them as they are
-  kept_behind : (xs es : List (K × V)) → (more : List (K × V)) × (firsts_behind eq es xs ≡ es ++ more)
-  kept_behind [] es = ([], sym (append-nil es))
-  kept_behind (x ∷ xs) es = by (kept_behind xs) (is_some (lookup (eq x.0) es))
+  kept_after : (xs es : List (K × V)) → (more : List (K × V)) × (firsts_after eq es xs ≡ es ++ more)
+  kept_after [] es = ([], sym (append-nil es))
+  kept_after (x ∷ xs) es = by (kept_after xs) (is_some (lookup (eq x.0) es))
     where
-      by : ((es : List (K × V)) → (more : List (K × V)) × (firsts_behind eq es xs ≡ es ++ more)) → (b : Bool) →
-          (more : List (K × V)) × (firsts_behind eq (if b then es else es ++ (x ∷ [])) xs ≡ es ++ more)
+      by : ((es : List (K × V)) → (more : List (K × V)) × (firsts_after eq es xs ≡ es ++ more)) → (b : Bool) →
+          (more : List (K × V)) × (firsts_after eq (if b then es else es ++ (x ∷ [])) xs ≡ es ++ more)
       by kept true = kept es
       by kept false =
           let rest = kept (es ++ (x ∷ [])) in
@@ -63,17 +63,17 @@ module _ {K V : Type 0} (eq : K → K → Bool) where
   firsts_parts : (xs more : List (K × V)) (e : K × V) → is_some (lookup (eq e.0) (firsts eq xs)) ≡ false →
       (rest : List (K × V)) × (firsts eq (xs ++ (e ∷ more)) ≡ firsts eq xs ++ (e ∷ rest))
   firsts_parts xs more e new =
-      let kept = kept_behind more (firsts eq xs ++ (e ∷ [])) in (
+      let kept = kept_after more (firsts eq xs ++ (e ∷ [])) in (
         kept.0,
-        behind_append xs (e ∷ more) []
-            ∙ ap (λ (b : Bool). firsts_behind eq (if b then firsts eq xs else firsts eq xs ++ (e ∷ [])) more) new
+        after_append xs (e ∷ more) []
+            ∙ ap (λ (b : Bool). firsts_after eq (if b then firsts eq xs else firsts eq xs ++ (e ∷ [])) more) new
             ∙ kept.1 ∙ append_assoc (firsts eq xs) (e ∷ []) kept.0,
       )
 
-  place_behind : (k : K) (front rest : List (K × V)) (e : K × V) → is_some (lookup (eq k) front) ≡ false → eq k e.0 ≡ true →
+  place_next : (k : K) (front rest : List (K × V)) (e : K × V) → is_some (lookup (eq k) front) ≡ false → eq k e.0 ≡ true →
       position_or_len (eq k) (keys_of (front ++ (e ∷ rest))) ≡ length front
-  place_behind k [] rest e new own = ap (λ b. cond (not b) (1 + position_or_len (eq k) (keys_of rest)) 0) own
-  place_behind k (x ∷ front) rest e new own = by (eq k x.0) new (λ new. place_behind k front rest e new own)
+  place_next k [] rest e new own = ap (λ b. cond (not b) (1 + position_or_len (eq k) (keys_of rest)) 0) own
+  place_next k (x ∷ front) rest e new own = by (eq k x.0) new (λ new. place_next k front rest e new own)
     where
       by : (b : Bool) → is_some (cond b (Some x.1) (lookup (eq k) front)) ≡ false →
           (is_some (lookup (eq k) front) ≡ false → position_or_len (eq k) (keys_of (front ++ (e ∷ rest))) ≡ length front) →
@@ -81,27 +81,27 @@ module _ {K V : Type 0} (eq : K → K → Bool) where
       by true new more = absurd (true≢false new)
       by false new more = let later = more new in omega (arith, later)
 
-  item_behind : (front rest : List (K × V)) (e : K × V) → slice_get (front ++ (e ∷ rest)) (length front) ≡ Some e
-  item_behind [] rest e = refl
-  item_behind (x ∷ front) rest e = item_behind front rest e
+  item_after : (front rest : List (K × V)) (e : K × V) → slice_get (front ++ (e ∷ rest)) (length front) ≡ Some e
+  item_after [] rest e = refl
+  item_after (x ∷ front) rest e = item_after front rest e
 
   many_keys : (front rest : List (K × V)) (e : K × V) → length front < length (keys_of (front ++ (e ∷ rest)))
   many_keys [] rest e = omega arith
   many_keys (x ∷ front) rest e = let more = many_keys front rest e in omega (arith, more)
 
   -- the key of an entry is found at the entry's place if none before it has that key
-  found_behind : (front rest : List (K × V)) (e : K × V) → is_some (lookup (eq e.0) front) ≡ false → eq e.0 e.0 ≡ true →
+  found_after : (front rest : List (K × V)) (e : K × V) → is_some (lookup (eq e.0) front) ≡ false → eq e.0 e.0 ≡ true →
       position (eq e.0) (keys_of (front ++ (e ∷ rest))) ≡ Some (length front)
-  found_behind front rest e new own =
+  found_after front rest e new own =
       let keys = keys_of (front ++ (e ∷ rest)) in
-      ap (λ n. cond (nat_lt n (length keys)) (Some n) None) (place_behind e.0 front rest e new own)
+      ap (λ n. cond (nat_lt n (length keys)) (Some n) None) (place_next e.0 front rest e new own)
       ∙ ap (λ b. cond b (Some (length front)) None) (lt-ltb (length front) (length keys) (many_keys front rest e))
 
   -- what stands under the key of an entry is the entry's if none before it has that key
-  lookup_behind : (front rest : List (K × V)) (e : K × V) → is_some (lookup (eq e.0) front) ≡ false → eq e.0 e.0 ≡ true →
+  lookup_after : (front rest : List (K × V)) (e : K × V) → is_some (lookup (eq e.0) front) ≡ false → eq e.0 e.0 ≡ true →
       lookup (eq e.0) (front ++ (e ∷ rest)) ≡ Some e.1
-  lookup_behind [] rest e new own = ap (λ b. cond b (Some e.1) (lookup (eq e.0) rest)) own
-  lookup_behind (x ∷ front) rest e new own = by (eq e.0 x.0) new (λ new. lookup_behind front rest e new own)
+  lookup_after [] rest e new own = ap (λ b. cond b (Some e.1) (lookup (eq e.0) rest)) own
+  lookup_after (x ∷ front) rest e new own = by (eq e.0 x.0) new (λ new. lookup_after front rest e new own)
     where
       by : (b : Bool) → is_some (cond b (Some x.1) (lookup (eq e.0) front)) ≡ false → (is_some (lookup (eq e.0) front) ≡ false → lookup (eq e.0) (front ++ (e ∷ rest)) ≡ Some e.1) →
           cond b (Some x.1) (lookup (eq e.0) (front ++ (e ∷ rest))) ≡ Some e.1
@@ -146,7 +146,7 @@ module _ (program : List StmtTree) (sound : IsSound program) where
       let parts = declared_parts block_of program None 1 i st e at is in
       let all = firsts_parts bytes_eq (declared block_of (numbered (take i (map Some program)))) parts.0 e new in
       ap (lookup (bytes_eq e.0)) (ap (firsts bytes_eq) parts.1 ∙ all.1)
-      ∙ lookup_behind bytes_eq (names_before i).blocks all.0 e new ((bytes_eq-Decides e.0 e.0).1 refl)
+      ∙ lookup_after bytes_eq (names_before i).blocks all.0 e new ((bytes_eq-Decides e.0 e.0).1 refl)
 
   module _ (i : ℕ) (st : StmtTree) (at : slice_get program i ≡ Some st) (block : List ℕ) (inside : block_at program i ≡ Some block) (d : Declaration) (is : declaration st.body ≡ Some d) where
     new_here : is_some (lookup (key_eq (key_in block d.name)) (names_before i).variables) ≡ false
@@ -171,12 +171,12 @@ module _ (program : List StmtTree) (sound : IsSound program) where
         ap (λ now. found_from names now d.name) inside
         ∙ ap (λ o. option_map_or found.Variable o (found_in names (option_map_or (λ b. b.uses) (block_named names block) []) d.name))
         (ap (λ variables. position (key_eq entry.0) (keys_of variables)) variables_parts.1
-        ∙ found_behind key_eq (names_before i).variables variables_parts.0 entry new_here (key_itself entry.0))
+        ∙ found_after key_eq (names_before i).variables variables_parts.0 entry new_here (key_itself entry.0))
 
     entry_here : slice_get (program_names program).variables (length (names_before i).variables) ≡ Some (variable_entry block (1 + i) d)
     entry_here =
         ap (λ variables. slice_get variables (length (names_before i).variables)) variables_parts.1
-        ∙ item_behind key_eq (names_before i).variables variables_parts.0 (variable_entry block (1 + i) d)
+        ∙ item_after key_eq (names_before i).variables variables_parts.0 (variable_entry block (1 + i) d)
 
     declared_here : IsDeclared (as_played program) (lookup_from (program_names program) (block_at program i)) (1 + i) block d
     declared_here = record {

@@ -11,7 +11,7 @@ use Rattle.std.proofs.lemmas.Option.{get_or_from_slice_get, slice_get-get_or, sl
 use Rattle.std.proofs.lemmas.Slice.Eq.{bytes_eq-Decides}
 use Rattle.stapl_syntax.specs.declared.names.Key.{Key}
 use Rattle.stapl_syntax.specs.Trees.{StmtTree}
-use Rattle.stapl_syntax.specs.Names.{numbered_from, inside_behind, inside_from, declared_from, put_first, firsts_behind, firsts, key_eq}
+use Rattle.stapl_syntax.specs.Names.{numbered_from, inside_next, inside_from, declared_from, put_first, firsts_after, firsts, key_eq}
 
 pub name_same : (a b : List ℕ) → bytes_eq a b ≡ true → a ≡ b
 name_same a b e = (bytes_eq-Decides a b).0 e
@@ -36,17 +36,17 @@ module _ {K V : Type 0} (declares : Option (List ℕ) → ℕ → StmtTree → O
       All P (declared_from declares now (numbered_from n (map Some rest)))
   all_declared [] now n each = All-nil P
   all_declared (st ∷ rest) now n each =
-      by (declares now n st) refl (all_declared rest (inside_behind now st.body) (n + 1) (λ i s e at is.
+      by (declares now n st) refl (all_declared rest (inside_next now st.body) (n + 1) (λ i s e at is.
       let next : n + suc i ≡ n + 1 + i = omega arith in
-      each (suc i) s e at (ap (λ m. declares (inside_from (inside_behind now st.body) (numbered_from (n + 1) (take i (map Some rest)))) m s) next ∙ is)))
+      each (suc i) s e at (ap (λ m. declares (inside_from (inside_next now st.body) (numbered_from (n + 1) (take i (map Some rest)))) m s) next ∙ is)))
     where
       by : (o : Option (K × V)) → declares now n st ≡ o →
-          All P (declared_from declares (inside_behind now st.body) (numbered_from (n + 1) (map Some rest))) →
-          All P (cons_option o (declared_from declares (inside_behind now st.body) (numbered_from (n + 1) (map Some rest))))
+          All P (declared_from declares (inside_next now st.body) (numbered_from (n + 1) (map Some rest))) →
+          All P (cons_option o (declared_from declares (inside_next now st.body) (numbered_from (n + 1) (map Some rest))))
       by None e more = more
       by (Some x) e more =
           let first : n + 0 ≡ n = omega arith in
-          All-cons P x (declared_from declares (inside_behind now st.body) (numbered_from (n + 1) (map Some rest)))
+          All-cons P x (declared_from declares (inside_next now st.body) (numbered_from (n + 1) (map Some rest)))
           (each 0 st x refl (ap (λ m. declares now m st) first ∙ e)) more
 
 module _ {K V : Type 0} (eq : K → K → Bool) where
@@ -57,12 +57,12 @@ module _ {K V : Type 0} (eq : K → K → Bool) where
       by true = all
       by false = All-push P es x all one
 
-  all_behind : (P : K × V → Type 0) (xs es : List (K × V)) → All P es → All P xs → All P (firsts_behind eq es xs)
-  all_behind P [] es front all = front
-  all_behind P (x ∷ xs) es front all = all_behind P xs (put_first eq es x) (all_put P es x front (All-head P x xs all)) (All-tail P x xs all)
+  all_after : (P : K × V → Type 0) (xs es : List (K × V)) → All P es → All P xs → All P (firsts_after eq es xs)
+  all_after P [] es front all = front
+  all_after P (x ∷ xs) es front all = all_after P xs (put_first eq es x) (all_put P es x front (All-head P x xs all)) (All-tail P x xs all)
 
   pub all_firsts : (P : K × V → Type 0) (xs : List (K × V)) → All P xs → All P (firsts eq xs)
-  all_firsts P xs all = all_behind P xs [] (All-nil P) all
+  all_firsts P xs all = all_after P xs [] (All-nil P) all
 
   module _ (same : (x y : K) → eq x y ≡ true → x ≡ y) where
     pub found_holds : (P : K × V → Type 0) (es : List (K × V)) (k : K) (v : V) → All P es → lookup (eq k) es ≡ Some v → P (k, v)
@@ -92,14 +92,14 @@ module _ {K V : Type 0} (eq : K → K → Bool) where
             let both = or_parts (list_any (λ e. eq k e.0) es) (eq k x.0 || false) (sym (list_any-append (λ e. eq k e.0) es (x ∷ [])) ∙ all) in
             (both.0, (or_parts (eq k x.0) false both.1).0)
 
-    none_behind : (k : K) (xs es : List (K × V)) → list_any (λ e. eq k e.0) (firsts_behind eq es xs) ≡ false →
+    none_after : (k : K) (xs es : List (K × V)) → list_any (λ e. eq k e.0) (firsts_after eq es xs) ≡ false →
         (list_any (λ e. eq k e.0) es ≡ false) × (list_any (λ e. eq k e.0) xs ≡ false)
-    none_behind k [] es none = (none, refl)
-    none_behind k (x ∷ xs) es none =
-        let more = none_behind k xs (put_first eq es x) none in
+    none_after k [] es none = (none, refl)
+    none_after k (x ∷ xs) es none =
+        let more = none_after k xs (put_first eq es x) none in
         let put = none_put k es x more.0 in
         (put.0, ap (λ b. b || list_any (λ e. eq k e.0) xs) put.1 ∙ more.1)
 
     -- a key that the first entries have not is that of no entry
     pub none_has_key : (k : K) (xs : List (K × V)) → is_some (lookup (eq k) (firsts eq xs)) ≡ false → list_any (λ e. eq k e.0) xs ≡ false
-    none_has_key k xs none = (none_behind k xs [] (sym (found_any k (firsts eq xs)) ∙ none)).1
+    none_has_key k xs none = (none_after k xs [] (sym (found_any k (firsts eq xs)) ∙ none)).1

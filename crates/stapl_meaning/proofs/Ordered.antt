@@ -4,7 +4,7 @@ use Rattle.std.proofs.lemmas.Bool.{and_parts, or_parts, not-true, true≢false}
 use Rattle.std.proofs.lemmas.List.Elements.{All-head, All-tail, All-weaker}
 use Rattle.stapl_syntax.specs.Trees.{BodyTree, note, action, procedure, data_block, end_data, crc, end_procedure, StmtTree}
 use Rattle.stapl_syntax.specs.Statements.{is_outer, begins_procedure, ends_procedure}
-use Rattle.stapl_syntax.specs.Names.{numbered_from, inside_behind, inside_from, declaration}
+use Rattle.stapl_syntax.specs.Names.{numbered_from, inside_next, inside_from, declaration}
 use Rattle.stapl_syntax.specs.Rules.{Place, is_outside as stands_outside, may_stand_inside, may_stand, in_data_block}
 use Rattle.stapl_meaning.specs.Scopes.{plays, pieces_from, program_names, block_at}
 use Rattle.stapl_meaning.specs.Typed.{IsOrdered}
@@ -119,25 +119,25 @@ module _ (program : List StmtTree) (sound : IsSound program) where
 
 -- ---- so statements stand in order
 
-begins_behind : (body : BodyTree) → IsNoData body → is_outer body ≡ true → is_some (inside_behind None body) ≡ begins_procedure body
-begins_behind (data_block name) plain e = absurd plain
-begins_behind _ plain e = refl
+begins_after : (body : BodyTree) → IsNoData body → is_outer body ≡ true → is_some (inside_next None body) ≡ begins_procedure body
+begins_after (data_block name) plain e = absurd plain
+begins_after _ plain e = refl
 
-ends_behind : (block : List ℕ) (body : BodyTree) → is_outer body ≡ false → is_some (inside_behind (Some block) body) ≡ not (ends_procedure body)
-ends_behind block end_data e = absurd (true≢false e)
-ends_behind block _ e = refl
+ends_after : (block : List ℕ) (body : BodyTree) → is_outer body ≡ false → is_some (inside_next (Some block) body) ≡ not (ends_procedure body)
+ends_after block end_data e = absurd (true≢false e)
+ends_after block _ e = refl
 
 from_here : (rest : List StmtTree) (now : Option (List ℕ)) (n : ℕ) → HasNoData rest →
     ((i : ℕ) (st : StmtTree) → slice_get rest i ≡ Some st → is_outer st.body ≡ not (is_some (inside_from now (numbered_from n (take i (map Some rest)))))) →
     is_some (inside_from now (numbered_from n (take (length rest) (map Some rest)))) ≡ false → IsOrdered (is_some now) rest
 from_here [] now n plain each end = end
 from_here (st ∷ rest) now n plain each end =
-    by now (each 0 st refl) (from_here rest (inside_behind now st.body) (n + 1) (All-tail (λ (z : StmtTree). IsNoData z.body) st rest plain) (λ i s at. each (suc i) s at) end)
+    by now (each 0 st refl) (from_here rest (inside_next now st.body) (n + 1) (All-tail (λ (z : StmtTree). IsNoData z.body) st rest plain) (λ i s at. each (suc i) s at) end)
   where
-    by : (now : Option (List ℕ)) → is_outer st.body ≡ not (is_some now) → IsOrdered (is_some (inside_behind now st.body)) rest → IsOrdered (is_some now) (st ∷ rest)
+    by : (now : Option (List ℕ)) → is_outer st.body ≡ not (is_some now) → IsOrdered (is_some (inside_next now st.body)) rest → IsOrdered (is_some now) (st ∷ rest)
     by None here more =
-        (here, subst (λ b. IsOrdered b rest) (begins_behind st.body (All-head (λ (z : StmtTree). IsNoData z.body) st rest plain) here) more)
-    by (Some block) here more = (here, subst (λ b. IsOrdered b rest) (ends_behind block st.body here) more)
+        (here, subst (λ b. IsOrdered b rest) (begins_after st.body (All-head (λ (z : StmtTree). IsNoData z.body) st rest plain) here) more)
+    by (Some block) here more = (here, subst (λ b. IsOrdered b rest) (ends_after block st.body here) more)
 
 pub ordered : (program : List StmtTree) → IsSound program → IsOrdered false (pieces_from None program)
 ordered program sound =

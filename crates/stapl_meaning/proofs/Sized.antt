@@ -11,7 +11,7 @@ use Rattle.stapl_syntax.specs.declared.names.Declaration.{Declaration}
 use Rattle.stapl_syntax.specs.declared.names.Key.{Key}
 use Rattle.stapl_syntax.specs.declared.names.Variable.{Variable}
 use Rattle.stapl_syntax.specs.Trees.{BodyTree, boolean, boolean_array, integer, integer_array, StmtTree}
-use Rattle.stapl_syntax.specs.Names.{Numbered, numbered_from, numbered, inside_behind, declaration, variable_entry, variable_in, variable_of, declared_from, declared, put_first, firsts_behind, firsts, key_eq}
+use Rattle.stapl_syntax.specs.Names.{Numbered, numbered_from, numbered, inside_next, declaration, variable_entry, variable_in, variable_of, declared_from, declared, put_first, firsts_after, firsts, key_eq}
 use Rattle.stapl_syntax.specs.Rules.{is_boolean, Totals, totals_of, boolean_limit, booleans_limit, integers_limit, is_too_large, has_too_many_values}
 use Rattle.stapl_meaning.specs.Scopes.{program_names, block_at}
 use Rattle.stapl_meaning.specs.Typed.{HasSize, IsSized, integers_of, booleans_of, AreSized}
@@ -99,11 +99,11 @@ module _ (elements : BodyTree → ℕ) where
       (rest : List StmtTree) (now : Option (List ℕ)) (n : ℕ) →
       sum_by size (declared_from declares now (numbered_from n (map Some rest))) ≤ sum_of (numbered_from n (map Some rest))
   sum_declared declares size each [] now n = omega arith
-  sum_declared {K} {V} declares size each (st ∷ rest) now n = by (declares now n st) refl (sum_declared declares size each rest (inside_behind now st.body) (n + 1))
+  sum_declared {K} {V} declares size each (st ∷ rest) now n = by (declares now n st) refl (sum_declared declares size each rest (inside_next now st.body) (n + 1))
     where
       by : (o : Option (K × V)) → declares now n st ≡ o →
-          sum_by size (declared_from declares (inside_behind now st.body) (numbered_from (n + 1) (map Some rest))) ≤ sum_of (numbered_from (n + 1) (map Some rest)) →
-          sum_by size (cons_option o (declared_from declares (inside_behind now st.body) (numbered_from (n + 1) (map Some rest))))
+          sum_by size (declared_from declares (inside_next now st.body) (numbered_from (n + 1) (map Some rest))) ≤ sum_of (numbered_from (n + 1) (map Some rest)) →
+          sum_by size (cons_option o (declared_from declares (inside_next now st.body) (numbered_from (n + 1) (map Some rest))))
           ≤ sum_of (record { piece = n; statement = st } ∷ numbered_from (n + 1) (map Some rest))
       by None e more =
           omega (arith, more, sum_first n st (numbered_from (n + 1) (map Some rest)))
@@ -113,7 +113,7 @@ module _ (elements : BodyTree → ℕ) where
             more,
             each now n st x e,
             sum_first n st (numbered_from (n + 1) (map Some rest)),
-            sum_by-cons size x (declared_from declares (inside_behind now st.body) (numbered_from (n + 1) (map Some rest))),
+            sum_by-cons size x (declared_from declares (inside_next now st.body) (numbered_from (n + 1) (map Some rest))),
           )
 
 -- the first entries of each key have no more elements than all
@@ -125,12 +125,12 @@ module _ {K V : Type 0} (eq : K → K → Bool) (size : K × V → ℕ) where
       by true = omega arith
       by false = omega (arith, sum_by_push size es x)
 
-  sum_behind : (xs es : List (K × V)) → sum_by size (firsts_behind eq es xs) ≤ sum_by size es + sum_by size xs
-  sum_behind [] es = omega arith
-  sum_behind (x ∷ xs) es = omega (arith, sum_behind xs (put_first eq es x), sum_put es x, sum_by-cons size x xs)
+  sum_after : (xs es : List (K × V)) → sum_by size (firsts_after eq es xs) ≤ sum_by size es + sum_by size xs
+  sum_after [] es = omega arith
+  sum_after (x ∷ xs) es = omega (arith, sum_after xs (put_first eq es x), sum_put es x, sum_by-cons size x xs)
 
   sum_firsts : (xs : List (K × V)) → sum_by size (firsts eq xs) ≤ sum_by size xs
-  sum_firsts xs = omega (arith, sum_behind xs [])
+  sum_firsts xs = omega (arith, sum_after xs [])
 
 -- the variables have no more elements than all declarations
 sum_of_variables : (elements : Option Declaration → ℕ) (limit : ℕ) (size : Key × Variable → ℕ) →

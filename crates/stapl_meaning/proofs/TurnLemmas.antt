@@ -16,12 +16,12 @@ found_preceded deeds (Broken es k s) h = tt
 found_preceded deeds (Scanning es job rest) h = h
 found_preceded deeds (NoTurn es) h = absurd h
 
-found_behind : (deeds : List Deed) (t : Turned) → IsFound (preceded deeds t) → IsFound t
-found_behind deeds (Leads es place s) h = tt
-found_behind deeds (Over es ending s) h = tt
-found_behind deeds (Broken es k s) h = tt
-found_behind deeds (Scanning es job rest) h = h
-found_behind deeds (NoTurn es) h = absurd h
+found_after : (deeds : List Deed) (t : Turned) → IsFound (preceded deeds t) → IsFound t
+found_after deeds (Leads es place s) h = tt
+found_after deeds (Over es ending s) h = tt
+found_after deeds (Broken es k s) h = tt
+found_after deeds (Scanning es job rest) h = h
+found_after deeds (NoTurn es) h = absurd h
 
 pub found_of_piece : (piece : ℕ) (t : Turned) → IsFound t → IsFound (turn_of_piece piece t)
 found_of_piece piece (Leads es place s) h = tt
@@ -43,18 +43,18 @@ found_chosen entry s (p ∷ ps) = tt
 
 module _ (scope : Scope) where
   -- what follows the values of a row
-  abbrev behind : BodyTree → State → (State → Turned) → List Value → Turned
-  behind b s go values = with_got (effect scope b values s) s (λ did. led scope.entry (target scope b) did go)
+  abbrev after : BodyTree → State → (State → Turned) → List Value → Turned
+  after b s go values = with_got (effect scope b values s) s (λ did. led scope.entry (target scope b) did go)
 
   has_effect : (b : BodyTree) (s : State) (did : Got Did) (go : State → Turned) → HasEffect scope b s did →
       carried scope b s go ≡ with_got did s (λ did. led scope.entry (target scope b) did go)
   has_effect b s did go has =
-      ap (λ g. with_got g s (behind b s go)) has.are
+      ap (λ g. with_got g s (after b s go)) has.are
       ∙ ap (λ g. with_got g s (λ did. led scope.entry (target scope b) did go)) has.is
 
   does_done : (bs : List BodyTree) (s : State) (turned : Turned) → Does scope bs s turned → rows_done scope bs s ≡ turned
   does_done _ _ _ (follows s) = refl
-  does_done _ _ _ (operand_faults b rest s k e) = ap (λ g. with_got g s (behind b s (rows_done scope rest))) e
+  does_done _ _ _ (operand_faults b rest s k e) = ap (λ g. with_got g s (after b s (rows_done scope rest))) e
   does_done _ _ _ (effect_faults b rest s k has) = has_effect b s (Faults k) (rows_done scope rest) has
   does_done _ _ _ (falls b rest s t deeds turned has more) =
       has_effect b s (Known (Falls deeds t)) (rows_done scope rest) has ∙ ap (preceded deeds) (does_done rest t turned more)
@@ -81,7 +81,7 @@ module _ (scope : Scope) where
         IsFound (with_got g s (λ did. led scope.entry (target scope b) did (rows_done scope rest))) →
         Does scope (b ∷ rest) s (with_got g s (λ did. led scope.entry (target scope b) did (rows_done scope rest)))
     with_effect values (Known (Falls deeds t)) p q found =
-        falls b rest s t deeds (rows_done scope rest t) (record { values = values; are = p; is = q }) (others t (found_behind deeds (rows_done scope rest t) found))
+        falls b rest s t deeds (rows_done scope rest t) (record { values = values; are = p; is = q }) (others t (found_after deeds (rows_done scope rest t) found))
     with_effect values (Known (Captures job lands)) p q found =
         scans b rest s job lands (λ bits. rows_done scope rest (lands bits)) (record { values = values; are = p; is = q })
         (λ bits. others (lands bits) (found bits))
@@ -93,7 +93,7 @@ module _ (scope : Scope) where
     with_effect values Stuck p q found = absurd found
 
     with_values : (g : Got (List Value)) → values_of scope.look s.store.variables (operands scope b) ≡ g →
-        IsFound (with_got g s (behind b s (rows_done scope rest))) → Does scope (b ∷ rest) s (with_got g s (behind b s (rows_done scope rest)))
+        IsFound (with_got g s (after b s (rows_done scope rest))) → Does scope (b ∷ rest) s (with_got g s (after b s (rows_done scope rest)))
     with_values (Known values) p found = with_effect values (effect scope b values s) p refl found
     with_values (Faults k) p found = operand_faults b rest s k p
     with_values Stuck p found = absurd found

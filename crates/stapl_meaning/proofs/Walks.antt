@@ -287,14 +287,14 @@ module _ (w : WalkRule) where
       })
   pushed_same (v ∷ w ∷ vs) s h = stuck_same
 
-  pub called_same : (behind : ℕ) (vs : List Value) (s : State) → Fits s → SameGot (called behind vs s) (called (w.place behind) vs (changed s))
-  called_same behind [] s h =
+  pub called_same : (after : ℕ) (vs : List Value) (s : State) → Fits s → SameGot (called after vs s) (called (w.place after) vs (changed s))
+  called_same after [] s h =
       let t : State = changed s in
-      room_same s (Known (Jumps (with_records s (Called behind ∷ s.records)))) (Known (Jumps (with_records t (Called (w.place behind) ∷ t.records)))) (record {
-        same = ap (λ rs. Known (Jumps (with_records t rs))) (sym (w.on_call behind s.records));
+      room_same s (Known (Jumps (with_records s (Called after ∷ s.records)))) (Known (Jumps (with_records t (Called (w.place after) ∷ t.records)))) (record {
+        same = ap (λ rs. Known (Jumps (with_records t rs))) (sym (w.on_call after s.records));
         kept = h;
       })
-  called_same behind (v ∷ vs) s h = stuck_same
+  called_same after (v ∷ vs) s h = stuck_same
 
   -- what is done with the topmost record
   top_same : (kind : ValueKind) (rs : List Record) (go go2 : Value × List Record → Got Did) → ((v : Value) (qs : List Record) → SameGot (go (v, qs)) (go2 (v, w.records qs)))
@@ -323,9 +323,9 @@ module _ (w : WalkRule) where
   loop_same (Faults k) l records go go2 s h f = fault_same k
   loop_same Stuck l records go go2 s h f = stuck_same
 
-  pub looped_same : (n behind : ℕ) (vs : List Value) (s : State) → Fits s → SameGot (looped n behind vs s) (looped n (w.place behind) vs (changed s))
-  looped_same n behind (Int first ∷ Int limit ∷ Int step ∷ []) s h =
-      let l : Loop = record { variable = n; limit = limit; step = step; place = behind } in
+  pub looped_same : (n after : ℕ) (vs : List Value) (s : State) → Fits s → SameGot (looped n after vs s) (looped n (w.place after) vs (changed s))
+  looped_same n after (Int first ∷ Int limit ∷ Int step ∷ []) s h =
+      let l : Loop = record { variable = n; limit = limit; step = step; place = after } in
       let t : State = changed s in
       let on : State → Got Did = λ t. Known (Falls [] t) in
       let begins : Got Did = then_get (with_loop l s.records first s) on in
@@ -333,13 +333,13 @@ module _ (w : WalkRule) where
       either_same (int_eq step (pos 0)) (Faults ZeroStep) (with_room s begins) (Faults ZeroStep) (with_room t begins2) (fault_same ZeroStep)
       (room_same s begins begins2
       (loop_same (scalar_written s.store.variables n (slice_get s.store.variables n) (Int first)) l s.records on on s h (λ t k. falls_same t k)))
-  looped_same n behind [] s h = stuck_same
-  looped_same n behind (Bit b ∷ vs) s h = stuck_same
-  looped_same n behind (Int first ∷ []) s h = stuck_same
-  looped_same n behind (Int first ∷ Bit b ∷ vs) s h = stuck_same
-  looped_same n behind (Int first ∷ Int limit ∷ []) s h = stuck_same
-  looped_same n behind (Int first ∷ Int limit ∷ Bit b ∷ vs) s h = stuck_same
-  looped_same n behind (Int first ∷ Int limit ∷ Int step ∷ v ∷ vs) s h = stuck_same
+  looped_same n after [] s h = stuck_same
+  looped_same n after (Bit b ∷ vs) s h = stuck_same
+  looped_same n after (Int first ∷ []) s h = stuck_same
+  looped_same n after (Int first ∷ Bit b ∷ vs) s h = stuck_same
+  looped_same n after (Int first ∷ Int limit ∷ []) s h = stuck_same
+  looped_same n after (Int first ∷ Int limit ∷ Bit b ∷ vs) s h = stuck_same
+  looped_same n after (Int first ∷ Int limit ∷ Int step ∷ v ∷ vs) s h = stuck_same
 
   round_same : (l : Loop) (records : List Record) (z : ℤ) (s : State) → Fits s
       → SameGot (went_round l records z s) (went_round (changed_loop l) (w.records records) z (changed s))

@@ -156,8 +156,8 @@ popped kind assigns values s =
 
 -- to the target, which is a procedure; a record keeps the place after
 abbrev pub called : ℕ → List Value → State → Got Did
-called behind [] s = with_room s (Known (Jumps (with_records s (Called behind ∷ s.records))))
-called behind _ s = Stuck
+called after [] s = with_room s (Known (Jumps (with_records s (Called after ∷ s.records))))
+called after _ s = Stuck
 
 -- The procedure is over. Records are dropped down to and with the nearest CALL, after which the play goes on; if there
 -- is none, all are.
@@ -181,12 +181,12 @@ with_loop l records z s =
 -- The loop of the variable of number n begins, from a first value, a limit and a step. Older records of that variable
 -- stay. The limit is tested by NEXT alone, after the body.
 abbrev pub looped : ℕ → ℕ → List Value → State → Got Did
-looped n behind (Int first ∷ Int limit ∷ Int step ∷ []) s =
+looped n after (Int first ∷ Int limit ∷ Int step ∷ []) s =
     if int_eq step (pos 0) then Faults ZeroStep
     else with_room s
-    (then_get (with_loop (record { variable = n; limit = limit; step = step; place = behind }) s.records first s)
+    (then_get (with_loop (record { variable = n; limit = limit; step = step; place = after }) s.records first s)
     (λ t. Known (Falls [] t)))
-looped n behind _ s = Stuck
+looped n after _ s = Stuck
 
 -- The topmost loop of the variable of number n, and the records below it. Above it may stand loops of other variables
 -- alone.

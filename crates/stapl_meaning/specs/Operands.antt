@@ -68,13 +68,13 @@ module _ (look : Lookup) (variables : List Held) where
   operand_value before o = then_get (value_of look variables o.kind o.expr) (tested o.test before)
 
   -- the values of operands, from left to right
-  abbrev pub values_behind : Option Value → List Operand → Got (List Value)
-  values_behind before [] = Known []
-  values_behind before (o ∷ os) =
-      then_get (operand_value before o) (λ v. then_get (values_behind (Some v) os) (λ vs. Known (v ∷ vs)))
+  abbrev pub values_after : Option Value → List Operand → Got (List Value)
+  values_after before [] = Known []
+  values_after before (o ∷ os) =
+      then_get (operand_value before o) (λ v. then_get (values_after (Some v) os) (λ vs. Known (v ∷ vs)))
 
   abbrev pub values_of : List Operand → Got (List Value)
-  values_of os = values_behind None os
+  values_of os = values_after None os
 
 -- the kind of what is printed of an expression of this kind: a literal is an integer
 abbrev pub printed_kind : Option Kind → ValueKind

@@ -146,10 +146,10 @@ pub record Found : Type 0 where
 
 abbrev pub scan_found : List Held → ScanParts → List Value → Got Found
 scan_found variables parts values =
-    let behind = drop (source_width parts.source) values in
+    let after = drop (source_width parts.source) values in
     then_get (source_bits variables parts.source (take (source_width parts.source) values)) (λ data_bits.
-    then_get (target_found variables parts.target (take (target_width parts.target) behind)) (λ target.
-    then_get (compare_found variables parts.compare (drop (target_width parts.target) behind)) (λ compare.
+    then_get (target_found variables parts.target (take (target_width parts.target) after)) (λ target.
+    then_get (compare_found variables parts.compare (drop (target_width parts.target) after)) (λ compare.
     Known (record { data_bits = data_bits; target = target; compare = compare }))))
 
 -- ---- what the captured bits do

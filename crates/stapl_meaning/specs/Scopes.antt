@@ -29,10 +29,10 @@ pub record Scope : Type 0 where
 -- A program as it plays.
 
 -- the DATA block that is open after a statement, if this one was open before it
-abbrev pub data_behind : Option (List ℕ) → BodyTree → Option (List ℕ)
-data_behind now (data_block name) = Some name
-data_behind now end_data = None
-data_behind now _ = now
+abbrev pub data_after : Option (List ℕ) → BodyTree → Option (List ℕ)
+data_after now (data_block name) = Some name
+data_after now end_data = None
+data_after now _ = now
 
 -- the statement is no part of a DATA block, which begins with DATA
 abbrev pub plays : Option (List ℕ) → BodyTree → Bool
@@ -47,7 +47,7 @@ idle = record { label = None; body = end_data }
 -- the pieces of a program, of which those of DATA blocks do nothing
 abbrev pub pieces_from : Option (List ℕ) → List StmtTree → List StmtTree
 pieces_from now [] = []
-pieces_from now (st ∷ rest) = (if plays now st.body then st else idle) ∷ pieces_from (data_behind now st.body) rest
+pieces_from now (st ∷ rest) = (if plays now st.body then st else idle) ∷ pieces_from (data_after now st.body) rest
 
 -- the declaration has an initial value
 abbrev pub has_initial_value : BodyTree → Bool
@@ -69,7 +69,7 @@ preset_of (Some block) body = if has_initial_value body then Some (record { bloc
 -- what each piece of a program presets, if it does
 abbrev pub presets_from : Option (List ℕ) → List StmtTree → List (Option Preset)
 presets_from now [] = []
-presets_from now (st ∷ rest) = preset_of now st.body ∷ presets_from (data_behind now st.body) rest
+presets_from now (st ∷ rest) = preset_of now st.body ∷ presets_from (data_after now st.body) rest
 
 -- What of a program plays: the names of all of it, the initial values of its DATA blocks, each at the place of its
 -- piece, and its pieces.

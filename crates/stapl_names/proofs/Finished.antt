@@ -8,7 +8,7 @@ use Rattle.std.proofs.lemmas.List.Elements.{All-nil, All-cons, All-push, All-hea
 use Rattle.stapl_syntax.specs.declared.names.Declaration.{Declaration}
 use Rattle.stapl_syntax.specs.declared.statement.Stmt.{Stmt}
 use Rattle.stapl_syntax.specs.Trees.{BodyTree, procedure, data_block, StmtTree, stmt_tree}
-use Rattle.stapl_syntax.specs.Names.{Numbered, with_numbers, inside_behind, key_eq, put_first, firsts, firsts_behind, declared, declared_from, declaration, block_of, block_of_body, variable_of, variable_in, names_of}
+use Rattle.stapl_syntax.specs.Names.{Numbered, with_numbers, inside_next, key_eq, put_first, firsts, firsts_after, declared, declared_from, declaration, block_of, block_of_body, variable_of, variable_in, names_of}
 use Rattle.stapl_names.specs.declared.tables.Tables.{Tables}
 use Rattle.stapl_names.specs.Tables.{AreUsed, AreSpelled, BearsName, BearsKey, AreFinished, names_in}
 
@@ -27,7 +27,7 @@ module _ {K V : Type 0} where
         by true = omega arith
         by false = let e : length (es ++ (x ∷ [])) ≡ length es + 1 = length-append es (x ∷ []) in omega (arith, e)
 
-    firsts_length : (xs es : List (K × V)) → length (firsts_behind eq es xs) ≤ length es + length xs
+    firsts_length : (xs es : List (K × V)) → length (firsts_after eq es xs) ≤ length es + length xs
     firsts_length [] es = omega arith
     firsts_length (x ∷ xs) es =
         let a = firsts_length xs (put_first eq es x) in
@@ -42,8 +42,8 @@ module _ {K V : Type 0} where
     declared_length : (sts : List Numbered) (now : Option (List ℕ)) → length (declared_from declares now sts) ≤ length sts
     declared_length [] now = omega arith
     declared_length (s ∷ rest) now =
-        let a = cons_length (declares now s.piece s.statement) (declared_from declares (inside_behind now s.statement.body) rest) in
-        let b = declared_length rest (inside_behind now s.statement.body) in
+        let a = cons_length (declares now s.piece s.statement) (declared_from declares (inside_next now s.statement.body) rest) in
+        let b = declared_length rest (inside_next now s.statement.body) in
         omega (arith, a, b)
 
     -- a table has at most one entry for each statement
@@ -61,7 +61,7 @@ module _ {K V : Type 0} where
         by true = ps
         by false = All-push P es x ps p
 
-    all_firsts : (eq : K → K → Bool) (xs es : List (K × V)) → All P es → All P xs → All P (firsts_behind eq es xs)
+    all_firsts : (eq : K → K → Bool) (xs es : List (K × V)) → All P es → All P xs → All P (firsts_after eq es xs)
     all_firsts eq [] es ps qs = ps
     all_firsts eq (x ∷ xs) es ps qs = all_firsts eq xs (put_first eq es x) (all_put eq es x ps (All-head P x xs qs)) (All-tail P x xs qs)
 
@@ -73,8 +73,8 @@ module _ {K V : Type 0} where
       all_declared : (sts : List Numbered) (now : Option (List ℕ)) → All P (declared_from declares now sts)
       all_declared [] now = All-nil P
       all_declared (s ∷ rest) now =
-          all_cons (declares now s.piece s.statement) (declared_from declares (inside_behind now s.statement.body) rest) (each now s.piece s.statement)
-          (all_declared rest (inside_behind now s.statement.body))
+          all_cons (declares now s.piece s.statement) (declared_from declares (inside_next now s.statement.body) rest) (each now s.piece s.statement)
+          (all_declared rest (inside_next now s.statement.body))
 
       -- what holds of each entry that a statement declares holds of all in a table
       table_all : (eq : K → K → Bool) (sts : List Numbered) → All P (firsts eq (declared declares sts))

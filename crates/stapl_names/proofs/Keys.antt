@@ -6,7 +6,7 @@ use Rattle.std.specs.Str.{bytes_eq}
 use Rattle.std.proofs.lemmas.Bool.{and_parts}
 use Rattle.std.proofs.lemmas.Slice.Eq.{bytes_eq-Decides}
 use Rattle.stapl_syntax.specs.declared.names.Key.{Key}
-use Rattle.stapl_syntax.specs.Names.{key_eq, put_first, firsts_behind}
+use Rattle.stapl_syntax.specs.Names.{key_eq, put_first, firsts_after}
 
 pub name_same : (a b : List ℕ) → bytes_eq a b ≡ true → a ≡ b
 name_same a b e = (bytes_eq-Decides a b).0 e
@@ -60,10 +60,10 @@ module _ {K V : Type 0} where
         by false h = ap (λ b. lookup (eq k) (if b then es else es ++ (x ∷ []))) h ∙ lookup_append (eq k) es (x ∷ [])
 
     -- what is put after entries is found by its first entry, unless its key was there
-    pub found_behind : (k : K) (xs es : List (K × V)) → lookup (eq k) (firsts_behind eq es xs) ≡ option_or (lookup (eq k) es) (lookup (eq k) xs)
-    found_behind k [] es = or_none (lookup (eq k) es)
-    found_behind k (x ∷ xs) es =
-        found_behind k xs (put_first eq es x)
+    pub found_after : (k : K) (xs es : List (K × V)) → lookup (eq k) (firsts_after eq es xs) ≡ option_or (lookup (eq k) es) (lookup (eq k) xs)
+    found_after k [] es = or_none (lookup (eq k) es)
+    found_after k (x ∷ xs) es =
+        found_after k xs (put_first eq es x)
         ∙ ap (λ o. option_or o (lookup (eq k) xs)) (put_found k es x)
         ∙ or_or (lookup (eq k) es) (lookup (eq k) (x ∷ [])) (lookup (eq k) xs)
         ∙ ap (option_or (lookup (eq k) es)) (sym (lookup_append (eq k) (x ∷ []) xs))

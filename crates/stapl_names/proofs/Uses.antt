@@ -8,20 +8,20 @@ use Rattle.std.proofs.lemmas.List.{at_drop_more}
 use Rattle.std.proofs.lemmas.Iterator.Adapters.{position_from-zero}
 use Rattle.stapl_syntax.specs.declared.names.Block.{Block}
 use Rattle.stapl_syntax.specs.declared.names.Key.{Key}
-use Rattle.stapl_syntax.specs.Names.{key_eq, key_in, put_first, firsts_behind}
+use Rattle.stapl_syntax.specs.Names.{key_eq, key_in, put_first, firsts_after}
 use Rattle.stapl_names.specs.declared.blocks.Blocks.{Blocks}
 use Rattle.stapl_names.specs.Tables.{places_from, AreUsed}
-use Rattle.stapl_names.proofs.Keys.{name_same, key_same, none_from, or_none, lookup_append, found_behind}
+use Rattle.stapl_names.proofs.Keys.{name_same, key_same, none_from, or_none, lookup_append, found_after}
 use Rattle.stapl_names.proofs.Positions.{place_or_len}
 
 -- a place more
 pub place_more : (block : List ℕ) (uses : List (List ℕ)) (place : ℕ) (name : List ℕ) (es new all : List (Key × ℕ)) → place < length uses → name ≡ get_or uses place name
-    → firsts_behind key_eq es (places_from block place (drop place uses)) ≡ all → new ≡ put_first key_eq es (key_in block name, place)
-    → firsts_behind key_eq new (places_from block (place + 1) (drop (place + 1) uses)) ≡ all
+    → firsts_after key_eq es (places_from block place (drop place uses)) ≡ all → new ≡ put_first key_eq es (key_in block name, place)
+    → firsts_after key_eq new (places_from block (place + 1) (drop (place + 1) uses)) ≡ all
 place_more block uses place name es new all within is so_far puts =
-    ap (λ l. firsts_behind key_eq l (places_from block (place + 1) (drop (place + 1) uses)))
+    ap (λ l. firsts_after key_eq l (places_from block (place + 1) (drop (place + 1) uses)))
     (puts ∙ ap (λ n. put_first key_eq es (key_in block n, place)) is)
-    ∙ sym (at_drop_more (λ l. firsts_behind key_eq es (places_from block place l)) uses place name within)
+    ∙ sym (at_drop_more (λ l. firsts_after key_eq es (places_from block place l)) uses place name within)
     ∙ so_far
 
 places_found : (other block name : List ℕ) (b : Bool) → bytes_eq other block ≡ b → (place : ℕ) (uses : List (List ℕ))
@@ -45,13 +45,13 @@ module _ (f : Block → Option ℕ) (b : Block) where
 
 -- a block more, and its places
 pub used_more : (old new : Blocks) (b : Block) → AreUsed old → is_some (lookup (bytes_eq b.name) old.table.entries) ≡ false
-    → new.used.entries ≡ firsts_behind key_eq old.used.entries (places_from b.name 0 b.uses)
+    → new.used.entries ≡ firsts_after key_eq old.used.entries (places_from b.name 0 b.uses)
     → new.table.entries ≡ old.table.entries ++ ((b.name, b) ∷ [])
     → AreUsed new
 used_more old new b given absent used table = λ block name.
     let f : Block → Option ℕ = λ x. position (bytes_eq name) x.uses in
     ap (lookup (key_eq (key_in block name))) used
-    ∙ found_behind key_eq key_same (key_in block name) (places_from b.name 0 b.uses) old.used.entries
+    ∙ found_after key_eq key_same (key_in block name) (places_from b.name 0 b.uses) old.used.entries
     ∙ (λ j. option_or (given block name j) (places_found block b.name name (bytes_eq block b.name) refl 0 b.uses j))
     ∙ ap (λ o. option_or (option_and_then f (lookup (bytes_eq block) old.table.entries)) (cond (bytes_eq block b.name) o None))
     (sym (position_from-zero (bytes_eq name) b.uses))

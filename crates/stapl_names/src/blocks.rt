@@ -6,7 +6,7 @@ ghost use Rattle.std.specs.Box.{box_value};
 ghost use Rattle.std.specs.Option.{option_map};
 ghost use Rattle.std.specs.Str.{bytes_eq};
 ghost use Rattle.stapl_syntax.specs.Trees.{body_tree};
-ghost use Rattle.stapl_syntax.specs.Names.{block_of_body, key_eq, firsts_behind};
+ghost use Rattle.stapl_syntax.specs.Names.{block_of_body, key_eq, firsts_after};
 ghost use Rattle.stapl_names.specs.Tables.{HasBlock, AreUsed, places_from};
 
 use crate::tables::put;
@@ -42,7 +42,7 @@ fn copied_uses(
 
 // Puts the first place of each name in the USES of a block.
 fn put_uses(used: &mut IndexMap<Key, usize>, own: &Name, uses: &[Name]) -> Result<(), AllocError>
-    ensures { OnOk result (used.new.entries ≡ firsts_behind key_eq used.old.entries (places_from own.now 0 uses.now)) }
+    ensures { OnOk result (used.new.entries ≡ firsts_after key_eq used.old.entries (places_from own.now 0 uses.now)) }
 {
     for place in 0..uses.len() {
         let key = Key {

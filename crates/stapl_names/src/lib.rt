@@ -13,4 +13,4 @@ pub use kinds::{
     is_integer, scalar_kind,
 };
 pub use names::{Names, collect};
-pub use tables::inside_behind;
+pub use tables::inside_next;

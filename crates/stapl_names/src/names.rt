@@ -8,7 +8,7 @@ ghost use Rattle.stapl_syntax.specs.Trees.{stmt_tree};
 ghost use Rattle.stapl_syntax.specs.Names.{names_of, with_numbers, key_in, key_eq, block_named, variable_number, found_in, found_from};
 ghost use Rattle.stapl_names.specs.Tables.{block_name, blocks_used, variable_of_block, label_of_block, numbers_from, StandsIn};
 
-use crate::tables::{Tables, inside_behind, number_of};
+use crate::tables::{Tables, inside_next, number_of};
 use stapl_lexer::Name;
 use stapl_syntax::{Block, Found, Key, Stmt, Variable};
 use std::alloc::{AllocError, Global};
@@ -53,7 +53,7 @@ pub fn collect(alloc: Global, pieces: &[u32], stmts: &[Stmt]) -> Result<Names, A
                 return Err(error);
             }
         }
-        inside = inside_behind(&inside, &st.body);
+        inside = inside_next(&inside, &st.body);
     }
     Ok(Names { tables })
 }

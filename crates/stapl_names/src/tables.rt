@@ -5,7 +5,7 @@ ghost use Rattle.std.specs.Box.{box_value};
 ghost use Rattle.std.specs.Option.{option_map};
 ghost use Rattle.std.specs.Str.{bytes_eq};
 ghost use Rattle.stapl_syntax.specs.Trees.{body_tree, stmt_tree};
-ghost use Rattle.stapl_syntax.specs.Names.{inside_behind, action_of_body, label_in, key_eq, put_first};
+ghost use Rattle.stapl_syntax.specs.Names.{inside_next, action_of_body, label_in, key_eq, put_first};
 ghost use Rattle.stapl_names.specs.Tables.{HasPut, AreUsed, AreSpelled, Puts};
 
 use crate::blocks::Blocks;
@@ -53,8 +53,8 @@ pub(crate) fn number_of<K: Eq + Hash + Drop, V: Drop>(map: &IndexMap<K, V>, key:
 }
 
 /// The block that is open after a statement, if this one was open before it.
-pub fn inside_behind(inside: &Option<Name>, body: &Body) -> Option<Name>
-    ensures { result ≡ inside_behind inside.now (body_tree body.now) }
+pub fn inside_next(inside: &Option<Name>, body: &Body) -> Option<Name>
+    ensures { result ≡ inside_next inside.now (body_tree body.now) }
 {
     match body {
         Body::Procedure(name, _) => Some(*name),

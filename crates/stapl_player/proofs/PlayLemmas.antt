@@ -138,13 +138,13 @@ module _ {C O : Type 0} (board : C → Option (List Card)) (makes : C → List S
     runs = λ more.
         (let far = before start f.made.clocks more in
         let others : List Event = pulses (far_clocks (far_after far f.front) f.rest) in
-        let behind : List Event = (play_of code chosen n (chain_reset base far)).events in
-        ap (λ (es : List Event). es ++ behind)
+        let after : List Event = (play_of code chosen n (chain_reset base far)).events in
+        ap (λ (es : List Event). es ++ after)
         (ap (λ (is : List Input). pulses (far_clocks far is)) f.parts ∙ ap pulses (far_append far f.front f.rest)
         ∙ map-append pulse (far_clocks far f.front) (far_clocks (far_after far f.front) f.rest)
         ∙ ap (λ (ks : List Clock). pulses ks ++ others)
         (far_made (board start) (board start) f.made.clocks f.front f.made.went_in more f.made.seen))
-        ∙ append_assoc (pulses f.made.clocks) others behind);
+        ∙ append_assoc (pulses f.made.clocks) others after);
     driven = front_nothing shown out _;
     front = λ more. front_nothing shown out _;
     most = λ more. omega arith;

@@ -7,7 +7,7 @@ use Rattle.stapl_lexer.specs.declared.piece.Piece.{Piece}
 use Rattle.stapl_syntax.specs.Symbols.{Symbol, symbols_of}
 use Rattle.stapl_syntax.specs.Trees.{ExprTree, CompareTree, BodyTree, note, action, procedure, data_block, end_data, crc, end_procedure, boolean, boolean_array, integer, integer_array, if_then, pop, print, scan, state_list, StmtTree}
 use Rattle.stapl_syntax.specs.Expressions.{IsCell, of_scalar, of_element}
-use Rattle.stapl_syntax.specs.Parts.{AreStates, one_state, more_states, more_behind_comma, IsPart, Separated, compare_part}
+use Rattle.stapl_syntax.specs.Parts.{AreStates, one_state, more_states, more_after_comma, IsPart, Separated, compare_part}
 use Rattle.stapl_syntax.specs.Statements.{is_outer, is_unconditional, IsBody, IsLabelled, IsPieceStatement}
 use Rattle.stapl_syntax.specs.Programs.{AreReadAs, IsProgram}
 use Rattle.stapl_shapes.specs.Shapes.{is_cell, has_compare_shape, is_simple_shape, is_inner_shape, is_outer_shape, HasShape}
@@ -26,7 +26,7 @@ separated_there P t s (x ∷ xs) is = has_one x xs
 states_there : {s : List Symbol} {ks : List ℕ} → AreStates s ks → nat_lt 0 (length ks) ≡ true
 states_there (one_state {k = k}) = has_one k []
 states_there (more_states {k = k} {ks = ks} are) = has_one k ks
-states_there (more_behind_comma {k = k} {ks = ks} are) = has_one k ks
+states_there (more_after_comma {k = k} {ks = ks} are) = has_one k ks
 
 -- the cell of a POP or a COMPARE
 cell_shaped : {s : List Symbol} {e : ExprTree} → IsCell s e → is_cell e ≡ true
@@ -36,7 +36,7 @@ cell_shaped (of_element m) = refl
 -- the COMPARE of a scan
 compare_shaped : (s : List Symbol) (compare : Option CompareTree) → IsPart compare_part compare s → has_compare_shape compare ≡ true
 compare_shaped s None is = refl
-compare_shaped s (Some compare) is = let behind = is.2.2.4.2 in cell_shaped behind.4.2
+compare_shaped s (Some compare) is = let after = is.2.2.4.2 in cell_shaped after.4.2
 
 -- a statement that may stand after THEN
 simple_shaped : (s : List Symbol) (body : BodyTree) → is_outer body ≡ false → is_unconditional body ≡ false → IsBody s body →
@@ -46,8 +46,8 @@ simple_shaped s (pop e) inner conditional is = cell_shaped is.2
 simple_shaped s (print parts) inner conditional is = separated_there _ _ is.0 parts is.2
 simple_shaped s (scan k e a t c) inner conditional is =
     let bits = is.2.4.2 in
-    let behind = bits.4 in
-    compare_shaped behind.1 c behind.4
+    let after = bits.4 in
+    compare_shaped after.1 c after.4
 simple_shaped s (state_list states) inner conditional is = states_there is.2
 simple_shaped s (note key text) inner conditional is = absurd cc
 simple_shaped s (action name text items) inner conditional is = absurd cc

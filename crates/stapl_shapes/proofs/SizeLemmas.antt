@@ -136,8 +136,8 @@ compare_fits s (Some c) is =
     let x = is.2.2 in
     let y = x.4.2 in
     let cell = after_fits y.4.1 (cell_fits y.4.2) in
-    let behind = after_fits x.4.1 (both_fit y.0 y.1 y.2 (array_fits y.3) cell) in
-    let all = after_fits is.1 (after_fits is.2.1 (both_fit x.0 x.1 x.2 (array_fits x.3) behind)) in
+    let beyond = after_fits x.4.1 (both_fit y.0 y.1 y.2 (array_fits y.3) cell) in
+    let all = after_fits is.1 (after_fits is.2.1 (both_fit x.0 x.1 x.2 (array_fits x.3) beyond)) in
     omega (arith, all)
 
 -- ---- statements
@@ -237,11 +237,11 @@ lexemes_fit : (text : List ℕ) (first : Option Bool) (at limit : ℕ) (lexemes 
     HasLexemes text first at limit lexemes → at + length lexemes ≤ limit
 lexemes_fit text first at limit [] le has = omega arith
 lexemes_fit text first at limit (l ∷ ls) le has =
-    let behind = has.0.behind in
+    let beyond = has.0.after in
     let some = has.0.some in
     let word = first_word first l.token.kind (token_bytes text l.token) in
     let more = lexemes_fit text word l.token.end limit ls has.0.within has.1 in
-    omega (arith, behind, some, more)
+    omega (arith, beyond, some, more)
 
 tokens_fit : (text : List ℕ) (piece : Piece) (tokens : List Token) → piece.start ≤ piece.end →
     AreTokens text piece tokens → piece.start + length (symbols_of text tokens) ≤ piece.end

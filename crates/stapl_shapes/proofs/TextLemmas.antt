@@ -17,7 +17,7 @@ use Rattle.stapl_lexer.proofs.PieceLemmas.{cut_lies}
 use Rattle.stapl_syntax.specs.Symbols.{Symbol, symbols_of}
 use Rattle.stapl_syntax.specs.Trees.{ArrayTree, PartTree, CompareTree, ItemTree, BodyTree, action, procedure, end_data, end_procedure, boolean_array, integer_array, assign, assign_element, assign_array, assign_range, if_then, print, ExportTree, export, scan, pad, state_list, StmtTree}
 use Rattle.stapl_syntax.specs.Expressions.{of_whole, of_range, IsArray, of_literal, of_target, of_expr}
-use Rattle.stapl_syntax.specs.Parts.{IsSigned, unsigned, minus, AreStates, one_state, more_states, more_behind_comma, IsPrintPart, of_string, of_value, of_character, IsExported, of_exported_value, of_exported_array, IsPart, an_array, after, maybe, item_part, compare_part, Separated, comma, join}
+use Rattle.stapl_syntax.specs.Parts.{IsSigned, unsigned, minus, AreStates, one_state, more_states, more_after_comma, IsPrintPart, of_string, of_value, of_character, IsExported, of_exported_value, of_exported_array, IsPart, an_array, after, maybe, item_part, compare_part, Separated, comma, join}
 use Rattle.stapl_syntax.specs.Statements.{IsBody, IsLabelled, IsPieceStatement}
 use Rattle.stapl_syntax.specs.Programs.{AreReadAs, IsProgram}
 use Rattle.stapl_shapes.specs.Bytes.{literal_bytes, array_bytes, given_bytes, compare_bytes, part_bytes, export_bytes, body_bytes, statement_bytes, statements_bytes}
@@ -61,8 +61,8 @@ compare_fits s (Some c) is =
     let x = is.2.2 in
     let y = x.4.2 in
     let mask = array_fits y.3 in
-    let behind = second_fits_left y.0 y.1 y.2 mask in
-    let both = both_fit x.0 x.1 x.2 (array_fits x.3) (after_fits x.4.1 behind) in
+    let beyond = second_fits_left y.0 y.1 y.2 mask in
+    let both = both_fit x.0 x.1 x.2 (array_fits x.3) (after_fits x.4.1 beyond) in
     let all = after_fits is.1 (after_fits is.2.1 both) in
     omega (arith, all)
   where
@@ -111,7 +111,7 @@ signed_there _ _ minus = omega arith
 states_fit : {s : List Symbol} {ks : List ℕ} → AreStates s ks → length ks ≤ bytes_of s
 states_fit one_state = omega arith
 states_fit (more_states are) = let more = states_fit are in omega (arith, more)
-states_fit (more_behind_comma are) = let more = states_fit are in omega (arith, more)
+states_fit (more_after_comma are) = let more = states_fit are in omega (arith, more)
 
 -- ---- statements
 
@@ -120,8 +120,8 @@ body_fits s (action v text items) is =
     let p = is.2 in
     let q = p.4 in
     let list = items_fit (IsPart item_part) comma item_there q.4.0 items q.4.2 in
-    let behind = second_fits q.0 q.1 q.2 (after_fits q.4.1 list) in
-    omega (arith, ap bytes_of is.1, ap bytes_of p.2, bytes_both p.0 p.1, ap bytes_of p.3, length-drop 1 v, behind)
+    let beyond = second_fits q.0 q.1 q.2 (after_fits q.4.1 list) in
+    omega (arith, ap bytes_of is.1, ap bytes_of p.2, bytes_both p.0 p.1, ap bytes_of p.3, length-drop 1 v, beyond)
 body_fits s (procedure v uses) is =
     let p = is.2 in
     omega (arith, ap bytes_of is.1, ap bytes_of p.2, bytes_both p.0 p.1, ap bytes_of p.3, length-drop 1 v)
@@ -188,7 +188,7 @@ lexemes_fit : (text : List ℕ) (first : Option Bool) (at limit : ℕ) (lexemes 
     HasLexemes text first at limit lexemes → at + bytes_of (symbols_of text (tokens_of lexemes)) ≤ limit
 lexemes_fit text first at limit [] le has = omega arith
 lexemes_fit text first at limit (l ∷ ls) le has =
-    let behind = has.0.behind in
+    let beyond = has.0.after in
     let some = has.0.some in
     let own : List ℕ = token_bytes text l.token in
     let more = lexemes_fit text (first_word first l.token.kind own) l.token.end limit ls has.0.within has.1 in
@@ -196,7 +196,7 @@ lexemes_fit text first at limit (l ∷ ls) le has =
     omega (arith, length-take (l.token.end - l.token.start) (drop l.token.start text)) in
     let room : 1 ≤ l.token.end - l.token.start = omega (arith, some) in
     let one = symbol_fits own (l.token.end - l.token.start) room short l.token.kind l.token.value l.token.terminal in
-    omega (arith, behind, some, more, one)
+    omega (arith, beyond, some, more, one)
 
 tokens_fit : (text : List ℕ) (piece : Piece) (tokens : List Token) → piece.start ≤ piece.end →
     AreTokens text piece tokens → piece.start + bytes_of (symbols_of text tokens) ≤ piece.end

@@ -9,17 +9,17 @@ use Rattle.stapl_lexer.specs.PieceTokens.{IsLiteral, digits_in}
 use Rattle.stapl_lexer.proofs.DigitLemmas.{digits_are_spaced, few_digits}
 use Rattle.stapl_syntax.specs.Contents.{AreLiteralBits}
 
-module _ (own behind : List ℕ) (n : ℕ) (short : length own ≤ n) where
-  some_digit : (kind : TokenKind) → IsLiteral kind true own behind → 1 ≤ length (digits_in kind false (drop 1 own))
+module _ (own after : List ℕ) (n : ℕ) (short : length own ≤ n) where
+  some_digit : (kind : TokenKind) → IsLiteral kind true own after → 1 ≤ length (digits_in kind false (drop 1 own))
   some_digit kind is =
-      let same = ap length (digits_are_spaced kind (drop 1 own) behind is.0 is.1) in
+      let same = ap length (digits_are_spaced kind (drop 1 own) after is.0 is.1) in
       let some : 1 ≤ length is.0 = leb-true 1 (length is.0) (sym is.2) in
       omega (arith, same, some)
 
   digits_within : (kind : TokenKind) → length (digits_in kind false (drop 1 own)) ≤ n
   digits_within kind = omega (arith, few_digits kind false (drop 1 own), length-drop 1 own, short)
 
-  pub binary_bits : IsLiteral kinds.Binary true own behind → AreLiteralBits n (bits_of_digits 1 (digits_in kinds.Binary false (drop 1 own)))
+  pub binary_bits : IsLiteral kinds.Binary true own after → AreLiteralBits n (bits_of_digits 1 (digits_in kinds.Binary false (drop 1 own)))
   binary_bits is =
       let digits = digits_in kinds.Binary false (drop 1 own) in
       record {
@@ -27,7 +27,7 @@ module _ (own behind : List ℕ) (n : ℕ) (short : length own ≤ n) where
         few = omega (arith, length-bits_of_digits 1 digits, digits_within kinds.Binary);
       }
 
-  pub hex_bits : IsLiteral kinds.Hexadecimal true own behind → AreLiteralBits n (bits_of_digits 4 (digits_in kinds.Hexadecimal false (drop 1 own)))
+  pub hex_bits : IsLiteral kinds.Hexadecimal true own after → AreLiteralBits n (bits_of_digits 4 (digits_in kinds.Hexadecimal false (drop 1 own)))
   hex_bits is =
       let digits = digits_in kinds.Hexadecimal false (drop 1 own) in
       record {

@@ -108,27 +108,27 @@ abbrev AreSound : ℕ → List Symbol → Type 0
 AreSound n [] = Unit {0}
 AreSound n (t ∷ s) = IsSound n t × AreSound n s
 
-sound_as : (n : ℕ) (kind : TokenKind) (value : ℤ) (terminal : Option Terminal) (own behind : List ℕ) → terminal ≡ terminal_of kind own → length own ≤ n →
-    Spells kind true own behind → IsSound n (symbol_as kind value terminal own)
-sound_as n kinds.Word value terminal own behind is short spelled = λ v e. free_word own v terminal is e
-sound_as n kinds.Number value terminal own behind is short spelled = λ v e. absurd cc
-sound_as n kinds.Text value terminal own behind is short spelled = omega (arith, length-take (length own - 2) (drop 1 own), length-drop 1 own, short)
-sound_as n kinds.Binary value terminal own behind is short spelled = binary_bits own behind n short spelled
-sound_as n kinds.Hexadecimal value terminal own behind is short spelled = hex_bits own behind n short spelled
-sound_as n kinds.Mark value terminal own behind is short spelled = λ v e. absurd (no_mark v terminal e)
-sound_as n kinds.Hex4 value terminal own behind is short spelled = tt
+sound_as : (n : ℕ) (kind : TokenKind) (value : ℤ) (terminal : Option Terminal) (own beyond : List ℕ) → terminal ≡ terminal_of kind own → length own ≤ n →
+    Spells kind true own beyond → IsSound n (symbol_as kind value terminal own)
+sound_as n kinds.Word value terminal own beyond is short spelled = λ v e. free_word own v terminal is e
+sound_as n kinds.Number value terminal own beyond is short spelled = λ v e. absurd cc
+sound_as n kinds.Text value terminal own beyond is short spelled = omega (arith, length-take (length own - 2) (drop 1 own), length-drop 1 own, short)
+sound_as n kinds.Binary value terminal own beyond is short spelled = binary_bits own beyond n short spelled
+sound_as n kinds.Hexadecimal value terminal own beyond is short spelled = hex_bits own beyond n short spelled
+sound_as n kinds.Mark value terminal own beyond is short spelled = λ v e. absurd (no_mark v terminal e)
+sound_as n kinds.Hex4 value terminal own beyond is short spelled = tt
 
 sound_lexemes : (text : List ℕ) (first : Option Bool) (at limit : ℕ) (lexemes : List Lexeme) → HasLexemes text first at limit lexemes →
     list_all (λ lexeme. lexeme.good) lexemes ≡ true → AreSound (length text) (symbols_of text (tokens_of lexemes))
 sound_lexemes text first at limit [] has good = tt
 sound_lexemes text first at limit (l ∷ ls) has good =
     let own = token_bytes text l.token in
-    let behind = slice_range text l.token.end limit in
+    let beyond = slice_range text l.token.end limit in
     let both = and_parts l.good (list_all (λ lexeme. lexeme.good) ls) good in
     let short : length own ≤ length text =
     omega (arith, length-take (l.token.end - l.token.start) (drop l.token.start text), length-drop l.token.start text) in (
-      sound_as (length text) l.token.kind l.token.value l.token.terminal own behind has.0.terminal short
-          (subst (λ g. Spells l.token.kind g own behind) both.0 has.0.spelled),
+      sound_as (length text) l.token.kind l.token.value l.token.terminal own beyond has.0.terminal short
+          (subst (λ g. Spells l.token.kind g own beyond) both.0 has.0.spelled),
       sound_lexemes text (first_word first l.token.kind own) l.token.end limit ls has.1 both.1,
     )
 
@@ -189,10 +189,10 @@ literal_compare : (n : ℕ) (compare : Option CompareTree) (s : List Symbol) →
 literal_compare n None s is sound = tt
 literal_compare n (Some compare) s is sound =
     let parts = is.2.2 in
-    let behind = parts.4 in
-    let masked = behind.2 in
+    let beyond = parts.4 in
+    let masked = beyond.2 in
     let both = sound_after n _ is.2.0 is.0 is.2.1 (sound_after n _ is.0 s is.1 sound) in
-    let mask_on = sound_after n _ behind.0 parts.1 behind.1 (sound_second n parts.0 parts.1 is.2.0 parts.2 both) in (
+    let mask_on = sound_after n _ beyond.0 parts.1 beyond.1 (sound_second n parts.0 parts.1 is.2.0 parts.2 both) in (
       literal_array n parts.0 compare.0 parts.3 (sound_left n parts.0 parts.1 (subst (AreSound n) parts.2 both)),
       literal_array n masked.0 compare.1.0 masked.3 (sound_left n masked.0 masked.1 (subst (AreSound n) masked.2 mask_on)),
     )
@@ -219,10 +219,10 @@ literals n s (assign_range v high low a) is sound =
     let lower = ranged.2 in
     let closed = lower.4 in
     let given = closed.2 in
-    let behind_name = sound_after n _ opened.0 is.1 opened.1 (sound_second n is.0 is.1 s is.2 sound) in
-    let behind_dots = sound_after n _ ranged.0 upper.1 ranged.1 (sound_second n upper.0 upper.1 opened.0 upper.2 behind_name) in
-    let behind_range = sound_after n _ closed.0 lower.1 closed.1 (sound_second n lower.0 lower.1 ranged.0 lower.2 behind_dots) in
-    literal_array n given.0 a given.2 (sound_after n _ given.0 closed.0 given.1 behind_range)
+    let after_name = sound_after n _ opened.0 is.1 opened.1 (sound_second n is.0 is.1 s is.2 sound) in
+    let after_dots = sound_after n _ ranged.0 upper.1 ranged.1 (sound_second n upper.0 upper.1 opened.0 upper.2 after_name) in
+    let after_range = sound_after n _ closed.0 lower.1 closed.1 (sound_second n lower.0 lower.1 ranged.0 lower.2 after_dots) in
+    literal_array n given.0 a given.2 (sound_after n _ given.0 closed.0 given.1 after_range)
 literals n s (export key (exported_array a)) is sound =
     let given = is.2.4 in
     by given.2 (sound_after n _ given.0 is.2.1 given.1 (sound_second n is.2.0 is.2.1 is.0 is.2.2 (sound_after n _ is.0 s is.1 sound)))
@@ -231,12 +231,12 @@ literals n s (export key (exported_array a)) is sound =
     by (of_exported_array {s = s} array) sound = literal_array n s a array sound
 literals n s (scan register count source target compare) is sound =
     let parts = is.2 in
-    let behind = parts.4 in
-    let shifted = behind.2 in
+    let beyond = parts.4 in
+    let shifted = beyond.2 in
     let others = shifted.4 in
-    let data_on = sound_after n _ behind.0 parts.1 behind.1 (sound_second n parts.0 parts.1 is.0 parts.2 (sound_after n _ is.0 s is.1 sound)) in (
+    let data_on = sound_after n _ beyond.0 parts.1 beyond.1 (sound_second n parts.0 parts.1 is.0 parts.2 (sound_after n _ is.0 s is.1 sound)) in (
       literal_array n shifted.0 source shifted.3 (sound_left n shifted.0 shifted.1 (subst (AreSound n) shifted.2 data_on)),
-      literal_compare n compare others.1 others.4 (sound_second n others.0 others.1 shifted.1 others.2 (sound_second n shifted.0 shifted.1 behind.0 shifted.2 data_on)),
+      literal_compare n compare others.1 others.4 (sound_second n others.0 others.1 shifted.1 others.2 (sound_second n shifted.0 shifted.1 beyond.0 shifted.2 data_on)),
     )
 literals n s (pad which count bits) is sound =
     let parts = is.2 in

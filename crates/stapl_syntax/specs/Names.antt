@@ -38,17 +38,17 @@ with_numbers (n ∷ ns) (st ∷ sts) = record { piece = n; statement = st } ∷ 
 with_numbers _ _ = []
 
 -- the block that is open after a statement, if this one was open before it
-abbrev pub inside_behind : Option (List ℕ) → BodyTree → Option (List ℕ)
-inside_behind now (procedure name uses) = Some name
-inside_behind now (data_block name) = Some name
-inside_behind now end_procedure = None
-inside_behind now end_data = None
-inside_behind now _ = now
+abbrev pub inside_next : Option (List ℕ) → BodyTree → Option (List ℕ)
+inside_next now (procedure name uses) = Some name
+inside_next now (data_block name) = Some name
+inside_next now end_procedure = None
+inside_next now end_data = None
+inside_next now _ = now
 
 -- the block that is open after these statements
 abbrev pub inside_from : Option (List ℕ) → List Numbered → Option (List ℕ)
 inside_from now [] = now
-inside_from now (s ∷ rest) = inside_from (inside_behind now s.statement.body) rest
+inside_from now (s ∷ rest) = inside_from (inside_next now s.statement.body) rest
 
 abbrev pub inside_after : List Numbered → Option (List ℕ)
 inside_after statements = inside_from None statements
@@ -106,7 +106,7 @@ module _ {K V : Type 0} (declares : Option (List ℕ) → ℕ → StmtTree → O
   -- what statements declare, in order
   abbrev pub declared_from : Option (List ℕ) → List Numbered → List (K × V)
   declared_from now [] = []
-  declared_from now (s ∷ rest) = cons_option (declares now s.piece s.statement) (declared_from (inside_behind now s.statement.body) rest)
+  declared_from now (s ∷ rest) = cons_option (declares now s.piece s.statement) (declared_from (inside_next now s.statement.body) rest)
 
   abbrev pub declared : List Numbered → List (K × V)
   declared statements = declared_from None statements
@@ -120,13 +120,13 @@ module _ {K V : Type 0} (eq : K → K → Bool) where
   put_option entries None = entries
   put_option entries (Some e) = put_first entries e
 
-  abbrev pub firsts_behind : List (K × V) → List (K × V) → List (K × V)
-  firsts_behind entries [] = entries
-  firsts_behind entries (e ∷ es) = firsts_behind (put_first entries e) es
+  abbrev pub firsts_after : List (K × V) → List (K × V) → List (K × V)
+  firsts_after entries [] = entries
+  firsts_after entries (e ∷ es) = firsts_after (put_first entries e) es
 
   -- of the entries with one key the first, in order
   abbrev pub firsts : List (K × V) → List (K × V)
-  firsts es = firsts_behind [] es
+  firsts es = firsts_after [] es
 
 abbrev pub key_eq : Key → Key → Bool
 key_eq a b = bytes_eq a.block b.block && bytes_eq a.name b.name

@@ -49,7 +49,7 @@ pub data AreStates : List Symbol → List ℕ → Type 0 where
   one_state : {k : ℕ} → AreStates (Plain (signs.State k) ∷ []) (k ∷ [])
   more_states : {k : ℕ} {s : List Symbol} {ks : List ℕ} → AreStates s ks →
       AreStates (Plain (signs.State k) ∷ s) (k ∷ ks)
-  more_behind_comma : {k : ℕ} {s : List Symbol} {ks : List ℕ} → AreStates s ks →
+  more_after_comma : {k : ℕ} {s : List Symbol} {ks : List ℕ} → AreStates s ks →
       AreStates (Plain (signs.State k) ∷ mark marks.Comma ∷ s) (k ∷ ks)
 
 -- ---- all parts

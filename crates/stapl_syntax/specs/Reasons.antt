@@ -15,9 +15,9 @@ use Rattle.stapl_syntax.specs.Trees.{StmtTree}
 use Rattle.stapl_syntax.specs.Statements.{Means}
 
 -- the symbols after the label, if there is one
-unfoldable pub behind_label : List Symbol → List Symbol
-behind_label (Plain (signs.Name v) ∷ Plain (signs.Mark marks.Colon) ∷ s) = s
-behind_label s = s
+unfoldable pub after_label : List Symbol → List Symbol
+after_label (Plain (signs.Name v) ∷ Plain (signs.Mark marks.Colon) ∷ s) = s
+after_label s = s
 
 -- a sign that may stand after the first name of an assignment
 unfoldable pub is_assign_sign : Sign → Bool
@@ -61,7 +61,7 @@ pub data HasReason (text : List ℕ) (piece : Piece) : Reason → Type 0 where
   -- a reason that lies in the bytes or in single tokens, or a bad token
   in_tokens : {reason : Reason} → HasTokenReason text piece reason → HasReason text piece reason
   -- after the label stands no statement
-  unknown : (tokens : List Token) → AreGoodTokens text piece tokens → is_unknown (behind_label (symbols_of text tokens)) ≡ true →
+  unknown : (tokens : List Token) → AreGoodTokens text piece tokens → is_unknown (after_label (symbols_of text tokens)) ≡ true →
       HasReason text piece reasons.UnknownStatement
   -- a word stands in it that this profile leaves out
   left_out : (tokens : List Token) → AreGoodTokens text piece tokens → holds_left_out (symbols_of text tokens) ≡ true →

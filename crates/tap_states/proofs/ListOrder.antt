@@ -5,40 +5,40 @@ use Rattle.std.proofs.lemmas.Bool.Decides.{nat_tests}
 use Rattle.tap_states.specs.Path.{ComesBefore}
 
 -- a test of lists of equal length: the first is the second or comes before it
-abbrev pub not_behind : List Bool → List Bool → Bool
-not_behind [] ys = true
-not_behind (x ∷ xs) [] = false
-not_behind (false ∷ xs) (false ∷ ys) = not_behind xs ys
-not_behind (false ∷ xs) (true ∷ ys) = true
-not_behind (true ∷ xs) (false ∷ ys) = false
-not_behind (true ∷ xs) (true ∷ ys) = not_behind xs ys
+abbrev pub not_after : List Bool → List Bool → Bool
+not_after [] ys = true
+not_after (x ∷ xs) [] = false
+not_after (false ∷ xs) (false ∷ ys) = not_after xs ys
+not_after (false ∷ xs) (true ∷ ys) = true
+not_after (true ∷ xs) (false ∷ ys) = false
+not_after (true ∷ xs) (true ∷ ys) = not_after xs ys
 
 -- no longer, and among equals no later
 abbrev pub better : List Bool → List Bool → Bool
-better p q = ltb (length p) (length q) || (eqb (length p) (length q) && not_behind p q)
+better p q = ltb (length p) (length q) || (eqb (length p) (length q) && not_after p q)
 
 -- the same as a fact
 abbrev pub Better : List Bool → List Bool → Type 0
-Better p q = (length p < length q) ⊎ ((length p ≡ length q) × (not_behind p q ≡ true))
+Better p q = (length p < length q) ⊎ ((length p ≡ length q) × (not_after p q ≡ true))
 
-not_behind-trans : (p q r : List Bool) → not_behind p q ≡ true → not_behind q r ≡ true → not_behind p r ≡ true
-not_behind-trans [] q r h k = refl
-not_behind-trans (x ∷ p) [] r h k = cc
-not_behind-trans (x ∷ p) (y ∷ q) [] h k = cc
-not_behind-trans (false ∷ p) (false ∷ q) (false ∷ r) h k = not_behind-trans p q r h k
-not_behind-trans (false ∷ p) (y ∷ q) (true ∷ r) h k = refl
-not_behind-trans (false ∷ p) (true ∷ q) (false ∷ r) h k = cc
-not_behind-trans (true ∷ p) (false ∷ q) r h k = cc
-not_behind-trans (true ∷ p) (true ∷ q) (false ∷ r) h k = cc
-not_behind-trans (true ∷ p) (true ∷ q) (true ∷ r) h k = not_behind-trans p q r h k
+not_after-trans : (p q r : List Bool) → not_after p q ≡ true → not_after q r ≡ true → not_after p r ≡ true
+not_after-trans [] q r h k = refl
+not_after-trans (x ∷ p) [] r h k = cc
+not_after-trans (x ∷ p) (y ∷ q) [] h k = cc
+not_after-trans (false ∷ p) (false ∷ q) (false ∷ r) h k = not_after-trans p q r h k
+not_after-trans (false ∷ p) (y ∷ q) (true ∷ r) h k = refl
+not_after-trans (false ∷ p) (true ∷ q) (false ∷ r) h k = cc
+not_after-trans (true ∷ p) (false ∷ q) r h k = cc
+not_after-trans (true ∷ p) (true ∷ q) (false ∷ r) h k = cc
+not_after-trans (true ∷ p) (true ∷ q) (true ∷ r) h k = not_after-trans p q r h k
 
-pub not_behind-refl : (p : List Bool) → not_behind p p ≡ true
-not_behind-refl [] = refl
-not_behind-refl (false ∷ p) = not_behind-refl p
-not_behind-refl (true ∷ p) = not_behind-refl p
+pub not_after-refl : (p : List Bool) → not_after p p ≡ true
+not_after-refl [] = refl
+not_after-refl (false ∷ p) = not_after-refl p
+not_after-refl (true ∷ p) = not_after-refl p
 
 -- two lists of which none comes before the other are one list
-pub same_from_tests : (p q : List Bool) → not_behind p q ≡ true → not_behind q p ≡ true → p ≡ q
+pub same_from_tests : (p q : List Bool) → not_after p q ≡ true → not_after q p ≡ true → p ≡ q
 same_from_tests [] [] h k = refl
 same_from_tests [] (y ∷ q) h k = cc
 same_from_tests (x ∷ p) [] h k = cc
@@ -47,19 +47,19 @@ same_from_tests (false ∷ p) (true ∷ q) h k = cc
 same_from_tests (true ∷ p) (false ∷ q) h k = cc
 same_from_tests (true ∷ p) (true ∷ q) h k = ap (λ z. true ∷ z) (same_from_tests p q h k)
 
-not_behind-cons : (b : Bool) (p q : List Bool) → not_behind p q ≡ true → not_behind (b ∷ p) (b ∷ q) ≡ true
-not_behind-cons false p q h = h
-not_behind-cons true p q h = h
+not_after-cons : (b : Bool) (p q : List Bool) → not_after p q ≡ true → not_after (b ∷ p) (b ∷ q) ≡ true
+not_after-cons false p q h = h
+not_after-cons true p q h = h
 
 pub Better-trans : (p q r : List Bool) → Better p q → Better q r → Better p r
 Better-trans p q r (inl a) (inl b) = inl (omega arith)
 Better-trans p q r (inl a) (inr b) = inl (omega arith)
 Better-trans p q r (inr a) (inl b) = inl (omega arith)
-Better-trans p q r (inr a) (inr b) = inr (omega arith, not_behind-trans p q r a.1 b.1)
+Better-trans p q r (inr a) (inr b) = inr (omega arith, not_after-trans p q r a.1 b.1)
 
 pub Better-cons : (b : Bool) (p q : List Bool) → Better p q → Better (b ∷ p) (b ∷ q)
 Better-cons b p q (inl a) = inl (omega arith)
-Better-cons b p q (inr a) = inr (ap suc a.0, not_behind-cons b p q a.1)
+Better-cons b p q (inr a) = inr (ap suc a.0, not_after-cons b p q a.1)
 
 pub Better-from_test : (p q : List Bool) → better p q ≡ true → Better p q
 Better-from_test p q h = grind (arith, nat_tests)
@@ -68,19 +68,19 @@ pub no_longer : (p q : List Bool) → Better p q → length p ≤ length q
 no_longer p q (inl a) = omega arith
 no_longer p q (inr a) = omega arith
 
-pub no_later : (p q : List Bool) → Better p q → length q ≡ length p → not_behind p q ≡ true
+pub no_later : (p q : List Bool) → Better p q → length q ≡ length p → not_after p q ≡ true
 no_later p q (inl a) e = absurd (omega arith)
 no_later p q (inr a) e = a.1
 
-ahead : (common xs ys : List Bool) → not_behind (common ++ true ∷ xs) (common ++ false ∷ ys) ≡ false
+ahead : (common xs ys : List Bool) → not_after (common ++ true ∷ xs) (common ++ false ∷ ys) ≡ false
 ahead [] xs ys = refl
 ahead (false ∷ common) xs ys = ahead common xs ys
 ahead (true ∷ common) xs ys = ahead common xs ys
 
-pub no_other_before : (p q : List Bool) → not_behind p q ≡ true → ¬ ComesBefore q p
+pub no_other_before : (p q : List Bool) → not_after p q ≡ true → ¬ ComesBefore q p
 no_other_before p q h b =
-    let e : not_behind (b.common ++ true ∷ b.later_rest) (b.common ++ false ∷ b.earlier_rest) ≡ true =
-    ap (λ z. not_behind z (b.common ++ false ∷ b.earlier_rest)) (sym b.later_is) ∙ ap (λ z. not_behind p z) (sym b.earlier_is) ∙ h in
+    let e : not_after (b.common ++ true ∷ b.later_rest) (b.common ++ false ∷ b.earlier_rest) ≡ true =
+    ap (λ z. not_after z (b.common ++ false ∷ b.earlier_rest)) (sym b.later_is) ∙ ap (λ z. not_after p z) (sym b.earlier_is) ∙ h in
     false≢true (sym (ahead b.common b.later_rest b.earlier_rest) ∙ e)
 
 ComesBefore-cons : (b : Bool) (p q : List Bool) → ComesBefore p q → ComesBefore (b ∷ p) (b ∷ q)

@@ -11,7 +11,7 @@ use Rattle.base.specs.Bits.{low_bits}
 use Rattle.tap_states.specs.Path.{walk, Leads, IsShortestPath, IsPath, five_ones, path_of}
 use Rattle.tap_states.specs.PathTable.{path_in_table, path_row}
 use Rattle.tap_states.proofs.States.{taps, each, tap_eq, tap_eq-same}
-use Rattle.tap_states.proofs.ListOrder.{not_behind, same_from_tests, better, Better, Better-trans, Better-cons, Better-from_test, no_longer, no_later, no_other_before, same_from_order}
+use Rattle.tap_states.proofs.ListOrder.{not_after, same_from_tests, better, Better, Better-trans, Better-cons, Better-from_test, no_longer, no_later, no_other_before, same_from_order}
 
 abbrev is_reset : Tap → Bool
 is_reset t = tap_eq t Reset
@@ -76,7 +76,7 @@ module _ (t : Tap) (not_reset : is_reset t ≡ false) where
   step s true = Better-from_test _ _ (both_second _ _ (each (no_better_start t) (both_second _ _ (both_second _ _ tested)) s))
 
   best : (q : List Bool) (s : Tap) → walk s q ≡ t → Better (path_in_table s t) q
-  best [] s h = let e : path_in_table s t ≡ [] = ap (λ x. path_in_table x t) h ∙ stay in inr (ap length e, ap (λ p. not_behind p []) e)
+  best [] s h = let e : path_in_table s t ≡ [] = ap (λ x. path_in_table x t) h ∙ stay in inr (ap length e, ap (λ p. not_after p []) e)
   best (b ∷ q) s h = Better-trans _ _ _ (step s b) (Better-cons b _ _ (best q (next_of s b) h))
 
   shortest_path : (s : Tap) → IsShortestPath s t (path_in_table s t)
@@ -127,7 +127,7 @@ table_is_path s t = record {
 
 -- the path by its definition is the one of the table
 abbrev is_in_table : Tap → Tap → Bool
-is_in_table s t = not_behind (path_in_table s t) (path_of s t) && not_behind (path_of s t) (path_in_table s t)
+is_in_table s t = not_after (path_in_table s t) (path_of s t) && not_after (path_of s t) (path_in_table s t)
 
 all_in_table : list_all (λ s. list_all (is_in_table s) taps) taps ≡ true
 all_in_table = refl
@@ -135,7 +135,7 @@ all_in_table = refl
 pub path_is_in_table : (s t : Tap) → path_in_table s t ≡ path_of s t
 path_is_in_table s t =
     let test : is_in_table s t ≡ true = each (is_in_table s) (each (λ x. list_all (is_in_table x) taps) all_in_table s) t in
-    let first : not_behind (path_in_table s t) (path_of s t) ≡ true = both_first _ _ test in
+    let first : not_after (path_in_table s t) (path_of s t) ≡ true = both_first _ _ test in
     same_from_tests (path_in_table s t) (path_of s t) first (both_second _ _ test)
 
 pub is_path : (s t : Tap) → IsPath s t (path_of s t)

@@ -6,7 +6,7 @@ use Rattle.std.proofs.lemmas.List.{drop_more}
 use Rattle.stapl_meaning.specs.declared.values.ValueKind.{ValueKind}
 use Rattle.stapl_code.specs.declared.raw.VarDef.{VarDef}
 use Rattle.stapl_code.specs.declared.instr.Instr.{Instr}
-use Rattle.stapl_code.specs.Kinds.{kinds_behind}
+use Rattle.stapl_code.specs.Kinds.{kinds_after}
 use Rattle.stapl_code.specs.Valid.{departs, is_last, judged, stands_well, rest_break}
 
 -- nothing follows exactly if all instructions are counted
@@ -25,7 +25,7 @@ module _
     (variables : List VarDef) (entry : ℕ) (procedure : List Instr) (i : ℕ) (x : Instr) (inside : i < length procedure)
     (is : x ≡ get_or procedure i x) where
   pub break_here : (must : Bool) (ks after : List ValueKind) (found stands : Bool) →
-      kinds_behind variables x ks ≡ (if found then Some after else None) →
+      kinds_after variables x ks ≡ (if found then Some after else None) →
       stands ≡ stands_well entry procedure must x (i + 1 == length procedure) → (found && stands) ≡ false →
       rest_break variables entry procedure (entry + i) must ks (drop i procedure) ≡ Some (entry + i)
   break_here must ks after found stands kinds well e =
@@ -42,7 +42,7 @@ module _
 
   -- an instruction that breaks no rule leaves the search to the rest
   pub break_more : (must : Bool) (ks after : List ValueKind) (found stands : Bool) →
-      kinds_behind variables x ks ≡ (if found then Some after else None) → found ≡ true →
+      kinds_after variables x ks ≡ (if found then Some after else None) → found ≡ true →
       stands ≡ stands_well entry procedure must x (i + 1 == length procedure) → stands ≡ true →
       rest_break variables entry procedure (entry + i) must ks (drop i procedure)
       ≡ rest_break variables entry procedure (entry + (i + 1)) (departs x) after (drop (i + 1) procedure)

@@ -2,7 +2,7 @@
 ghost use Rattle.std.specs.Prelude.{◌≡◌, ◌<◌, ◌^◌, [], Some, None, drop, nat_lt, slice_get, slice_range, IfOk, IfErr, if◌then◌else◌};
 ghost use Rattle.std.specs.List.{list_all};
 ghost use Rattle.stapl_code.specs.Depth.{depth_of};
-ghost use Rattle.stapl_code.specs.Kinds.{kinds_behind};
+ghost use Rattle.stapl_code.specs.Kinds.{kinds_after};
 ghost use Rattle.stapl_code.specs.Ranges.{IsInRange};
 ghost use Rattle.stapl_code.specs.Files.{IsShort};
 ghost use Rattle.stapl_code.specs.Valid.{is_turn, is_end, sets_up, departs, kinds_kept, is_target, leads_well, ends_stable, rests_well, stands_well, prologue_break, procedure_break, next_entry, procedures_break, entry_break, first_break, IsValid};
@@ -146,7 +146,7 @@ fn follow_prologue(
     last: bool,
     kinds: &mut Stack<ValueKind>,
 ) -> Result<bool, AllocError>
-    ensures { IfOk result (λ found. kinds_kept last (kinds_behind variables.now instr.now kinds.old) ≡ (if found then Some kinds.new else None)) }
+    ensures { IfOk result (λ found. kinds_kept last (kinds_after variables.now instr.now kinds.old) ≡ (if found then Some kinds.new else None)) }
 {
     let found = follow(variables, instr, kinds)?;
     Ok(found && (!last || kinds.len() == 0))

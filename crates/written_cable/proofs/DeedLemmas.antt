@@ -350,12 +350,12 @@ module _ {C O : Type 0} (breakage : PinCable C O → Breakage) (board : C → Op
       happened = λ more.
           (let far = far_before clocks more in
           let others : List Event = pulses (far_clocks (far_after far front) more_inputs) in
-          let behind : List Event = deeds_events (deed_chain (chain_before breakage board makes shown old clocks more) d) rest in
-          ap (λ (es : List Event). es ++ behind) (events_are far ∙ ap (λ (is : List Input). pulses (far_clocks far is)) parts
+          let beyond : List Event = deeds_events (deed_chain (chain_before breakage board makes shown old clocks more) d) rest in
+          ap (λ (es : List Event). es ++ beyond) (events_are far ∙ ap (λ (is : List Input). pulses (far_clocks far is)) parts
           ∙ ap pulses (far_append far front more_inputs)
           ∙ map-append pulse (far_clocks far front) (far_clocks (far_after far front) more_inputs)
           ∙ ap (λ (ks : List Clock). pulses ks ++ others) (far_made (board (cable_of old)) (board (cable_of old)) clocks front went_in more seen))
-          ∙ append_assoc (pulses clocks) others behind);
+          ∙ append_assoc (pulses clocks) others beyond);
     }
 
   -- ---- a scan with base padding, and what it captured

@@ -4,8 +4,8 @@ use Rattle.chain_sim.proofs.rack.+shift_all.Goals as goal
 
 pub shift_at-requires-clause-fitted : goal.shift_at-requires-clause-fitted
 shift_at-requires-clause-fitted g t c =
-    first_fitted g.D.Device.fitted c.args.rack.now.items c.shift_all-behind.new.rack.items c.args.places.now _ _
-    c.in-Some.ensures.cases.0 c.requires.apart c.requires.fitted c.shift_all-behind.ensures.others
+    first_fitted g.D.Device.fitted c.args.rack.now.items c.shift_all-after.new.rack.items c.args.places.now _ _
+    c.in-Some.ensures.cases.0 c.requires.apart c.requires.fitted c.shift_all-after.ensures.others
 
 pub returns-in-None-clause-cards : goal.returns-in-None-clause-cards
 returns-in-None-clause-cards g t c = no_places _ c.args.places.now c.args.tdi c.args.n c.args.last (nil_from_length c.args.places.now c.in-None.ensures.cases)
@@ -16,14 +16,14 @@ returns-in-None-clause-tdo g t c = no_places_seen _ c.args.places.now c.args.tdi
 
 pub returns-in-Some-clause-cards : goal.returns-in-Some-clause-cards
 returns-in-Some-clause-cards g t c =
-    all_shifted g.D.Device.fitted c.args.rack.now.items c.shift_all-behind.new.rack.items c.args.places.now _ _
-    c.args.tdi c.args.n c.shift_all-behind.result c.args.last c.shift_at.new.rack.items
-    c.in-Some.ensures.cases.0 c.requires.apart c.requires.fitted c.shift_all-behind.ensures.others
-    c.shift_all-behind.ensures.cards c.shift_all-behind.ensures.tdo c.shift_at.ensures.card
+    all_shifted g.D.Device.fitted c.args.rack.now.items c.shift_all-after.new.rack.items c.args.places.now _ _
+    c.args.tdi c.args.n c.shift_all-after.result c.args.last c.shift_at.new.rack.items
+    c.in-Some.ensures.cases.0 c.requires.apart c.requires.fitted c.shift_all-after.ensures.others
+    c.shift_all-after.ensures.cards c.shift_all-after.ensures.tdo c.shift_at.ensures.card
     c.shift_at.ensures.others
 
 pub returns-in-Some-clause-tdo : goal.returns-in-Some-clause-tdo
 returns-in-Some-clause-tdo g t c =
-    all_seen g.D.Device.fitted c.args.rack.now.items c.shift_all-behind.new.rack.items c.args.places.now _ _ c.args.tdi
-    c.args.n c.shift_all-behind.result c.args.last c.shift_at.result
-    c.in-Some.ensures.cases.0 c.requires.apart c.requires.fitted c.shift_all-behind.ensures.others c.shift_all-behind.ensures.tdo c.shift_at.ensures.tdo
+    all_seen g.D.Device.fitted c.args.rack.now.items c.shift_all-after.new.rack.items c.args.places.now _ _ c.args.tdi
+    c.args.n c.shift_all-after.result c.args.last c.shift_at.result
+    c.in-Some.ensures.cases.0 c.requires.apart c.requires.fitted c.shift_all-after.ensures.others c.shift_all-after.ensures.tdo c.shift_at.ensures.tdo

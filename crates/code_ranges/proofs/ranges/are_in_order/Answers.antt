@@ -8,14 +8,14 @@ use Rattle.code_ranges.proofs.ranges.are_in_order.Goals as goal
 abbrev AreInOrder : ProcDef → ProcDef → Type 0
 AreInOrder a b = (a.name ≢ b.name) × (a.entry < b.entry)
 
-pub returns-then-not-is_behind : goal.returns-then-not-is_behind
-returns-then-not-is_behind c =
-    let m = c.if-not-is_behind.ensures in
+pub returns-then-not-is_after : goal.returns-then-not-is_after
+returns-then-not-is_after c =
+    let m = c.if-not-is_after.ensures in
     (λ f. absurd cc, λ pairs. m.1 (pairs_before AreInOrder c.args.procedures.now c.loop-i.i c.index-procedures-i.result c.loop-i-test.true c.index-procedures-i.is pairs))
 
 pub loop-i-preserved : goal.loop-i-preserved
 loop-i-preserved c =
-    let m = c.if-not-is_behind.ensures in
+    let m = c.if-not-is_after.ensures in
     pairs_more AreInOrder c.args.procedures.now c.loop-i.i c.index-procedures-i.result c.loop-i-test.true c.index-procedures-i.is c.loop-i.invariant (m.0 refl)
 
 pub returns : goal.returns

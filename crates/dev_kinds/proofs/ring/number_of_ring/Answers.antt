@@ -16,8 +16,8 @@ pub returns-clause-bits : goal.returns-clause-bits
 returns-clause-bits c =
     let first = c.args.len - c.args.head in
     let whole : first + c.args.head ≡ c.args.len = omega (arith, c.requires.inside) in
-    let behind : c.args.head + first ≡ c.args.len = omega (arith, c.requires.inside) in
+    let after : c.args.head + first ≡ c.args.len = omega (arith, c.requires.inside) in
     all_of_it c.args.len c.join-both.result c.cut-number.result.0 c.cut-number.result.1 c.cut-number.ensures.bits
     ∙ ap (λ k. low_bits k c.join-both.result) (sym whole) ∙ c.join-both.ensures.bits
     ∙ ap₂ (λ u v. u ++ v) c.word.ensures.bits c.word-2.ensures.bits
-    ∙ sym (ring_parts c.args.len c.args.head first c.args.ring.now behind)
+    ∙ sym (ring_parts c.args.len c.args.head first c.args.ring.now after)

@@ -15,10 +15,10 @@ returns-in_ok-from-in-len2 c = λ told chosen records ir dr.
     let vars = c.args.variables.now.items in let dest = c.args.dest in let vs = c.args.values.now in
     let found : IsFound vars (array_of dest) (dest_span c.args.profile dest vs) c.in_ok-part.part =
     subst (λ (l : List Held). IsFound l (array_of dest) (dest_span c.args.profile dest vs) c.in_ok-part.part) c.deref.ensures.value c.in_ok-part.ensures in
-    let first = get_or c.behind.result.now 0 (Int (pos 0)) in let second = get_or c.behind.result.now 1 (Int (pos 0)) in
-    let both : c.behind.result.now ≡ first ∷ second ∷ [] = two_items c.behind.result.now (Int (pos 0)) c.in-len2.len_at_least c.in-len2.len_below in
+    let first = get_or c.after.result.now 0 (Int (pos 0)) in let second = get_or c.after.result.now 1 (Int (pos 0)) in
+    let both : c.after.result.now ≡ first ∷ second ∷ [] = two_items c.after.result.now (Int (pos 0)) c.in-len2.len_at_least c.in-len2.len_below in
     let from : IsFound vars c.args.from (range_span c.args.profile first second) c.in_ok-from-in-len2.from =
     subst (λ (l : List Held). IsFound l c.args.from (range_span c.args.profile first second) c.in_ok-from-in-len2.from) c.deref-in-len2.ensures.value c.in_ok-from-in-len2.ensures in
     subst (λ (d : Got Did). IsMade c.copy_part.result told (state_with chosen records ir dr vars) (state_with chosen records ir dr c.copy_part.new.variables.items) (does d))
-    (sym (copied_range c.args.profile dest vs c.in_ok-part.part chosen records ir dr vars found c.args.from first second c.in_ok-from-in-len2.from from (sym c.behind.ensures ∙ both)))
+    (sym (copied_range c.args.profile dest vs c.in_ok-part.part chosen records ir dr vars found c.args.from first second c.in_ok-from-in-len2.from from (sym c.after.ensures ∙ both)))
     (c.copy_part.ensures told chosen records ir dr)

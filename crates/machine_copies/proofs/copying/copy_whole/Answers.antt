@@ -15,7 +15,7 @@ returns-in_ok-from-in-empty c = λ told chosen records ir dr.
     subst (λ (l : List Held). IsFound l (array_of dest) (dest_span c.args.profile dest vs) c.in_ok-part.part) c.deref.ensures.value c.in_ok-part.ensures in
     let from : IsFound vars c.args.from whole_span c.in_ok-from-in-empty.from =
     subst (λ (l : List Held). IsFound l c.args.from whole_span c.in_ok-from-in-empty.from) c.deref-in-empty.ensures.value c.in_ok-from-in-empty.ensures in
-    let none : c.behind.result.now ≡ [] = no_item_left c.behind.result.now c.in-empty.len_below in
+    let none : c.after.result.now ≡ [] = no_item_left c.after.result.now c.in-empty.len_below in
     subst (λ (d : Got Did). IsMade c.copy_part.result told (state_with chosen records ir dr vars) (state_with chosen records ir dr c.copy_part.new.variables.items) (does d))
-    (sym (copied_whole c.args.profile dest vs c.in_ok-part.part chosen records ir dr vars found c.args.from c.in_ok-from-in-empty.from from (sym c.behind.ensures ∙ none)))
+    (sym (copied_whole c.args.profile dest vs c.in_ok-part.part chosen records ir dr vars found c.args.from c.in_ok-from-in-empty.from from (sym c.after.ensures ∙ none)))
     (c.copy_part.ensures told chosen records ir dr)

@@ -2,7 +2,7 @@ use Rattle.std.proofs.Common.{◌≡◌, ◌≤◌, ◌+◌, refl, length, ◌�
 use Rattle.tool_io.proofs.BytesLemmas.{on_err}
 use Rattle.scan_paths.proofs.CallsInARow.{clocks_nothing}
 use Rattle.scan_paths.proofs.Parts.{line_start, pins_start, part_then}
-use Rattle.scan_paths.proofs.Shifting.{next_block, none_in_list, front_of_word, behind_word, length_of_word}
+use Rattle.scan_paths.proofs.Shifting.{next_block, none_in_list, front_of_word, after_word, length_of_word}
 use Rattle.scan_paths.proofs.Capturing.{seen_none, seen_block, seen_all, seen_failed}
 use Rattle.scan_paths.proofs.shifts.shift_data.Goals as goal
 
@@ -55,7 +55,7 @@ loop-at-preserved g c =
       pins = part_then c.loop-at.invariant.pins c.shift_block.ensures.pins;
       inside = h;
       way = rw (front_of_word c.loop-at.at c.min-len.result c.in_ok-tdo.tdo c.set_word.new.self c.loop-at.captured c.set_word.ensures.bits room) t;
-      rest = behind_word c.loop-at.at c.min-len.result c.args.n c.in_ok-tdo.tdo c.set_word.new.self c.loop-at.captured
+      rest = after_word c.loop-at.at c.min-len.result c.args.n c.in_ok-tdo.tdo c.set_word.new.self c.loop-at.captured
           c.set_word.ensures.bits room h ∙ c.loop-at.invariant.rest;
       length = length_of_word c.loop-at.at c.min-len.result c.in_ok-tdo.tdo c.set_word.new.self c.loop-at.captured
           c.set_word.ensures.bits room ∙ c.loop-at.invariant.length;

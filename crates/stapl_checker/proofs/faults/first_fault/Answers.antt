@@ -15,7 +15,7 @@ returns-in-Stops c = λ whats told all.
 
 pub returns-in-Ends : goal.returns-in-Ends
 returns-in-Ends c = λ whats told all.
-    rw c.fault_behind.ensures
+    rw c.fault_after.ensures
     (ends_is c.args.names.now whats c.args.reading.now _ c.in-Ends.course told all c.requires.front
     ((λ j. length (take (c.front_of.ensures j) c.deref.result.now)) ∙ ap (λ (z : List Stmt). length (take (front_of c.args.reading.now) z)) c.deref.ensures.value)
     (rw c.front_of.ensures at (rw c.deref.ensures.value at c.in-Ends.ensures)))

@@ -46,5 +46,5 @@ loop-st-preserved c =
           ∙ ap (λ b. c.loop-st.actions.items ++ action_def program (if b then body_tree st.body else end_data) []) c.plays-playing.ensures
           ∙ ap (λ b. c.loop-st.actions.items ++ action_def program b []) (sym same))
           c.loop-st.invariant.put;
-      at = rw c.data_behind-block.ensures (next sts i block (stmt_tree st) (drop (i + 1) sts) is at refl);
+      at = rw c.data_after-block.ensures (next sts i block (stmt_tree st) (drop (i + 1) sts) is at refl);
     }

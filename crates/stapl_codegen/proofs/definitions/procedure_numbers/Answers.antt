@@ -13,8 +13,8 @@ loop-block-preserved c =
     let next = c.loop-block.next in
     let few = c.loop-block.invariant.few in
     record {
-      few = omega (arith, c.number_behind-next.ensures, one_more block.is_data next, few);
-      numbers = ap (λ n. c.push.new.self.items ++ numbers_from n (drop (c.loop-block.block + 1) c.args.names.now.blocks)) c.number_behind-next.ensures
+      few = omega (arith, c.number_after-next.ensures, one_more block.is_data next, few);
+      numbers = ap (λ n. c.push.new.self.items ++ numbers_from n (drop (c.loop-block.block + 1) c.args.names.now.blocks)) c.number_after-next.ensures
           ∙ numbers_more c.args.names.now.blocks c.loop-block.block next (block.name, block) c.loop-block.numbers.items c.push.new.self.items _
           c.loop-block.invariant.numbers c.block_at.ensures.entry c.in_ok-push.ensures.items;
     }

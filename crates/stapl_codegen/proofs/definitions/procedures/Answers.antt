@@ -29,5 +29,5 @@ loop-i-preserved c =
           ∙ ap (λ b. c.loop-i.procedures.items ++ procedure_def c.start_of_place-entry.result b []) (sym same)
           ∙ ap (λ n. c.loop-i.procedures.items ++ procedure_def n own.body []) c.start_of_place-entry.ensures)
           c.loop-i.invariant.put;
-      at = rw c.data_behind-block.ensures (next sts i block (stmt_tree st) (drop (i + 1) sts) is at refl);
+      at = rw c.data_after-block.ensures (next sts i block (stmt_tree st) (drop (i + 1) sts) is at refl);
     }

@@ -39,7 +39,7 @@ loop-st-preserved c =
           (preset_first sts i block (stmt_tree st) rest is at) (piece_first sts i block (stmt_tree st) rest is at) (starts block (body_tree st.body)) c.loop-st.invariant.written
           (c.own_literals.ensures ∙ ap (λ b. length (body_literals b)) (sym body)) c.preset_literals.ensures c.in_ok-own.ensures c.in_ok-literals.ensures
           ensures.code ensures.texts ensures.literals ensures.site;
-      at = rw c.data_behind-block.ensures (next sts i block (stmt_tree st) rest is at refl);
+      at = rw c.data_after-block.ensures (next sts i block (stmt_tree st) rest is at refl);
     }
 
 pub returns : goal.returns

@@ -9,7 +9,7 @@ use Rattle.stapl_meaning.proofs.Blocks.{body_of, same_count}
 use Rattle.stapl_code.specs.Machine.{nowhere}
 use Rattle.stapl_codegen.specs.Emit.{row_literals, preset_items, body_texts, body_literals}
 use Rattle.stapl_codegen.specs.Numbers.{numbers_from}
-use Rattle.stapl_codegen.specs.Drafts.{AreDrafted, IsDraft, site_behind, piece_code_in}
+use Rattle.stapl_codegen.specs.Drafts.{AreDrafted, IsDraft, site_after, piece_code_in}
 use Rattle.stapl_codegen.proofs.Heads.{mapped_more}
 use Rattle.stapl_codegen.proofs.Places.{at_start, piece, piece_first, preset_first, next, presets_count}
 use Rattle.stapl_codegen.proofs.Drafts.{drafted_size, none_written, piece_more, is_draft}
@@ -65,13 +65,13 @@ loop-st-preserved c =
           (ensures.code ∙ ap (λ b. before.code ++ piece_code_in before (if b then stmt_tree st else idle)) playing)
           (ensures.texts ∙ ap (λ b. before.texts ++ body_texts (if b then stmt_tree st else idle).body) playing)
           (ensures.literals ∙ ap (λ b. before.literals ++ (body_literals (if b then stmt_tree st else idle).body ++ preset_items row_literals (preset_of block (body_tree st.body)))) playing)
-          (ensures.site ∙ ap (λ b. site_behind before.site (if b then stmt_tree st else idle).body) playing)
+          (ensures.site ∙ ap (λ b. site_after before.site (if b then stmt_tree st else idle).body) playing)
           (c.start_at.ensures
           ∙ ap (λ b. if is_outer (if b then body_tree st.body else end_data) then nowhere else c.len.result) playing
           ∙ ap (λ b. if is_outer b then nowhere else c.len.result) (sym body)
           ∙ ap (λ n. if is_outer own.body then nowhere else n) c.len.ensures)
           c.in_ok-push.ensures.items;
-      at = rw c.data_behind-block.ensures (next sts i block (stmt_tree st) (drop (i + 1) sts) is at refl);
+      at = rw c.data_after-block.ensures (next sts i block (stmt_tree st) (drop (i + 1) sts) is at refl);
     }
 
 pub returns : goal.returns

@@ -19,7 +19,7 @@ returns-in-Ok-clause-acts c = λ chosen.
     let entries = entries_of code.procedures in let s = state_of chosen old in
     let new : Workspace = record { memory = c.make.new.memory; operands = c.truncate.new.self; text = c.make.new.text; next = old.next; piece = old.piece } in
     let len : c.len-len.result ≡ length xs = search rules in
-    let is : c.behind-values.result.now ≡ drop at xs = c.behind-values.ensures ∙ ap (drop at) c.deref.ensures.value in
+    let is : c.after-values.result.now ≡ drop at xs = c.after-values.ensures ∙ ap (drop at) c.deref.ensures.value in
     let told = c.in-Ok.ensures.made entries (drop old.next chosen) in
     acts code i (lands entries here i) chosen s new (reverse (take at xs)) (step_of code here i chosen old)
     (made entries (constants_of code) here i (drop at xs) s) c.in-Ok.made (ap reverse (sym c.truncate.ensures.items))
@@ -33,7 +33,7 @@ returns-in-Err-clause-acts c = λ chosen.
     let entries = entries_of code.procedures in let s = state_of chosen old in
     let new : Workspace = record { memory = c.make.new.memory; operands = old.operands; text = c.make.new.text; next = old.next; piece = old.piece } in
     let len : c.len-len.result ≡ length xs = search rules in
-    let is : c.behind-values.result.now ≡ drop at xs = c.behind-values.ensures ∙ ap (drop at) c.deref.ensures.value in
+    let is : c.after-values.result.now ≡ drop at xs = c.after-values.ensures ∙ ap (drop at) c.deref.ensures.value in
     let told = c.in-Err.ensures.made entries (drop old.next chosen) in
     acts_not code i (lands entries here i) chosen s new (reverse (take at xs)) (step_of code here i chosen old) (made entries (constants_of code) here i (drop at xs) s) c.in-Err.stop
     (all_there code i old chosen here c.operands_taken-count.result c.len-len.result c.operands_taken-count.ensures len c.if-len-count.false)

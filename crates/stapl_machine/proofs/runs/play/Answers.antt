@@ -13,8 +13,8 @@ use Rattle.stapl_instructions.proofs.OperandLemmas.{none_hold, room_kept}
 use Rattle.stapl_machine.proofs.RunLemmas.{runs_none, turn_then, turn_then_front, turn_front, at_first, started, begun_by, play_is, play_ticks_is, begun_does, begun_front}
 use Rattle.stapl_machine.proofs.runs.play.Goals as goal
 
-pub returns-in-Ok-run_behind-clause-runs : goal.returns-in-Ok-run_behind-clause-runs
-returns-in-Ok-run_behind-clause-runs g c =
+pub returns-in-Ok-run_after-clause-runs : goal.returns-in-Ok-run_after-clause-runs
+returns-in-Ok-run_after-clause-runs g c =
     let m = g.C.Cable in let b = port_breakage m.breakage g.O.Paper.failed in let w = g.O.Paper.shown in let code = c.args.code.now in let chosen = c.args.chosen.now in let n = c.args.turns in
     let work = c.args.work.now in let none = c.requires.none in let no = c.requires.unused in let entry = entry_of (entries_of code.procedures) in
     let first = at_first code chosen work n none no in let s = started code chosen work n none no in let begun = begun_by code chosen work n none no in
@@ -26,14 +26,14 @@ returns-in-Ok-run_behind-clause-runs g c =
     c.args.steps.now c.args.steps.now c.rest_of_turn.new.steps (λ k. refl) (λ k. refl)
     (runs_none b m.board m.made w c.args.port.now all here count here_count c.args.steps.now (g.met.C.Cable.none_made c.args.port.now.cable.now) c.requires.whole
     (play_is code chosen work n none no) (λ k. ap (λ t. c.args.steps.now + t) (sym (play_ticks_is code chosen work n none no k))))
-    led u (state_of chosen c.run_behind.new.work) c.run_behind.new.port c.run_behind.new.steps c.in-Ok-run_behind.ending (begun_run code n (led_on c.in-Ok.went u) u)
+    led u (state_of chosen c.run_after.new.work) c.run_after.new.port c.run_after.new.steps c.in-Ok-run_after.ending (begun_run code n (led_on c.in-Ok.went u) u)
     (begun_ticks code n (led_on c.in-Ok.went u))
     (begun_does b m.board m.made w c.args.port.now c.rest_of_turn.new.port entry (rest_of code 0 chosen first) (led_on c.in-Ok.went u)
     (ticks_from code 0 chosen first) no_ticks c.args.steps.now c.rest_of_turn.new.steps c.in-Ok.ensures.does)
-    (λ k. refl) (λ k. refl) c.in-Ok-run_behind.ensures.runs
+    (λ k. refl) (λ k. refl) c.in-Ok-run_after.ensures.runs
 
-pub returns-in-Err-run_behind-clause-runs : goal.returns-in-Err-run_behind-clause-runs
-returns-in-Err-run_behind-clause-runs g c =
+pub returns-in-Err-run_after-clause-runs : goal.returns-in-Err-run_after-clause-runs
+returns-in-Err-run_after-clause-runs g c =
     let m = g.C.Cable in let b = port_breakage m.breakage g.O.Paper.failed in let w = g.O.Paper.shown in let code = c.args.code.now in let chosen = c.args.chosen.now in let n = c.args.turns in
     let work = c.args.work.now in let none = c.requires.none in let no = c.requires.unused in let entry = entry_of (entries_of code.procedures) in
     let first = at_first code chosen work n none no in let s = started code chosen work n none no in let begun = begun_by code chosen work n none no in
@@ -45,10 +45,10 @@ returns-in-Err-run_behind-clause-runs g c =
     c.args.steps.now c.args.steps.now c.rest_of_turn.new.steps (λ k. refl) (λ k. refl)
     (runs_none b m.board m.made w c.args.port.now all here count here_count c.args.steps.now (g.met.C.Cable.none_made c.args.port.now.cable.now) c.requires.whole
     (play_is code chosen work n none no) (λ k. ap (λ t. c.args.steps.now + t) (sym (play_ticks_is code chosen work n none no k))))
-    led u c.run_behind.new.port c.run_behind.new.steps (begun_run code n (led_on c.in-Ok.went u) u) (begun_ticks code n (led_on c.in-Ok.went u))
+    led u c.run_after.new.port c.run_after.new.steps (begun_run code n (led_on c.in-Ok.went u) u) (begun_ticks code n (led_on c.in-Ok.went u))
     (begun_does b m.board m.made w c.args.port.now c.rest_of_turn.new.port entry (rest_of code 0 chosen first) (led_on c.in-Ok.went u)
     (ticks_from code 0 chosen first) no_ticks c.args.steps.now c.rest_of_turn.new.steps c.in-Ok.ensures.does)
-    (λ k. refl) (λ k. refl) c.in-Err-run_behind.ensures.runs
+    (λ k. refl) (λ k. refl) c.in-Err-run_after.ensures.runs
 
 pub returns-in-Err-clause-runs : goal.returns-in-Err-clause-runs
 returns-in-Err-clause-runs g c =
@@ -69,6 +69,6 @@ pub rest_of_turn-requires-clause-few : goal.rest_of_turn-requires-clause-few
 rest_of_turn-requires-clause-few g c =
     let work = c.args.work.now in none_hold c.args.code.now 0 (record work { next = 0 }) c.requires.room c.requires.none
 
-pub run_behind-requires-clause-room : goal.run_behind-requires-clause-room
-run_behind-requires-clause-room g c =
+pub run_after-requires-clause-room : goal.run_after-requires-clause-room
+run_after-requires-clause-room g c =
     let work = c.args.work.now in room_kept c.args.code.now (record work { next = 0 }) c.rest_of_turn.new.work c.requires.room c.rest_of_turn.ensures.room

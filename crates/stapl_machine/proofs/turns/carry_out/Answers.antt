@@ -7,9 +7,9 @@ use Rattle.machine_memory.specs.Jobs.{job_scan, job_lands}
 use Rattle.stapl_instructions.specs.Moves.{led_on}
 use Rattle.written_cable.specs.Pins.{port_breakage}
 use Rattle.stapl_machine.specs.Turns.{rest_of, ticks_from, no_ticks}
-use Rattle.stapl_instructions.proofs.OperandLemmas.{count_fits, holds_behind}
+use Rattle.stapl_instructions.proofs.OperandLemmas.{count_fits, holds_after}
 use Rattle.machine_memory.proofs.PrintLemmas.{print_fits}
-use Rattle.stapl_machine.proofs.TurnLemmas.{goes, counts, does_still, does_deeds, does_deeds_front, does_lack, does_scan, does_scan_front, behind, ticks_after, none_over}
+use Rattle.stapl_machine.proofs.TurnLemmas.{goes, counts, does_still, does_deeds, does_deeds_front, does_lack, does_scan, does_scan_front, after, ticks_after, none_over}
 use Rattle.stapl_machine.proofs.turns.carry_out.Goals as goal
 
 pub returns-in-On-clause-does : goal.returns-in-On-clause-does
@@ -60,7 +60,7 @@ returns-then-not-is_stable-clause-does g c =
     let old = c.args.work.now in let new = c.advance.new.work in let x = c.index-as_slice-i.result in let is : x ≡ get_or code.instrs i x = search rules in
     let job = c.in-Scans.job in let s = state_of chosen new in
     does_lack b m.board m.made g.O.Paper.shown c.args.port.now c.args.port.now (job_scan new.memory.shifted job s) (job_lands new.memory.shifted job s)
-    (rest_of code i chosen old) (ticks_from code i chosen old) (λ u k. happened_in_piece new.piece (behind code i (operands_of new) u k))
+    (rest_of code i chosen old) (ticks_from code i chosen old) (λ u k. happened_in_piece new.piece (after code i (operands_of new) u k))
     (λ u k. ticks_after code i (operands_of new) u k) c.args.steps.now c.count.new.steps
     (goes code i chosen old x c.requires.inside is new c.advance.result (Scans job) c.in-Scans.is c.advance.ensures.leads)
     (counts code i chosen old x c.requires.inside is new c.advance.result (Scans job) c.in-Scans.is c.advance.ensures.ticks c.args.steps.now c.count.new.steps c.count.ensures)
@@ -72,7 +72,7 @@ returns-in-Ok-capture-clause-does g c =
     let old = c.args.work.now in let new = c.advance.new.work in let x = c.index-as_slice-i.result in let is : x ≡ get_or code.instrs i x = search rules in
     let job = c.in-Scans.job in let s = state_of chosen new in
     does_scan b m.board m.made g.O.Paper.shown c.args.port.now c.capture.new.port (job_scan new.memory.shifted job s) (job_lands new.memory.shifted job s)
-    (rest_of code i chosen old) (ticks_from code i chosen old) (λ u k. happened_in_piece new.piece (behind code i (operands_of new) u k))
+    (rest_of code i chosen old) (ticks_from code i chosen old) (λ u k. happened_in_piece new.piece (after code i (operands_of new) u k))
     (λ u k. ticks_after code i (operands_of new) u k) c.args.steps.now c.count.new.steps
     (goes code i chosen old x c.requires.inside is new c.advance.result (Scans job) c.in-Scans.is c.advance.ensures.leads)
     (counts code i chosen old x c.requires.inside is new c.advance.result (Scans job) c.in-Scans.is c.advance.ensures.ticks c.args.steps.now c.count.new.steps c.count.ensures)
@@ -84,7 +84,7 @@ returns-in-Err-capture-clause-does g c =
     let old = c.args.work.now in let new = c.advance.new.work in let x = c.index-as_slice-i.result in let is : x ≡ get_or code.instrs i x = search rules in
     let job = c.in-Scans.job in let s = state_of chosen new in
     does_scan_front b m.board m.made g.O.Paper.shown c.args.port.now c.capture.new.port (job_scan new.memory.shifted job s) (job_lands new.memory.shifted job s)
-    (rest_of code i chosen old) (ticks_from code i chosen old) (λ u k. happened_in_piece new.piece (behind code i (operands_of new) u k))
+    (rest_of code i chosen old) (ticks_from code i chosen old) (λ u k. happened_in_piece new.piece (after code i (operands_of new) u k))
     (λ u k. ticks_after code i (operands_of new) u k) c.args.steps.now c.count.new.steps
     (goes code i chosen old x c.requires.inside is new c.advance.result (Scans job) c.in-Scans.is c.advance.ensures.leads)
     (counts code i chosen old x c.requires.inside is new c.advance.result (Scans job) c.in-Scans.is c.advance.ensures.ticks c.args.steps.now c.count.new.steps c.count.ensures)
@@ -103,14 +103,14 @@ advance-requires-clause-few g c =
 pub returns-in-On-clause-clean : goal.returns-in-On-clause-clean
 returns-in-On-clause-clean g c =
     let code = c.args.code.now in let i = c.args.i in let x = c.index-as_slice-i.result in let is : x ≡ get_or code.instrs i x = search rules in
-    holds_behind code i x c.requires.inside is c.args.work.now c.requires.few c.advance.new.work c.in-On.ensures.clean
+    holds_after code i x c.requires.inside is c.args.work.now c.requires.few c.advance.new.work c.in-On.ensures.clean
 
 pub returns-in-Ok-clause-clean : goal.returns-in-Ok-clause-clean
 returns-in-Ok-clause-clean g c =
     let code = c.args.code.now in let i = c.args.i in let x = c.index-as_slice-i.result in let is : x ≡ get_or code.instrs i x = search rules in
-    holds_behind code i x c.requires.inside is c.args.work.now c.requires.few c.advance.new.work c.in-Acts.ensures.clean
+    holds_after code i x c.requires.inside is c.args.work.now c.requires.few c.advance.new.work c.in-Acts.ensures.clean
 
 pub returns-in-Ok-capture-clause-clean : goal.returns-in-Ok-capture-clause-clean
 returns-in-Ok-capture-clause-clean g c =
     let code = c.args.code.now in let i = c.args.i in let x = c.index-as_slice-i.result in let is : x ≡ get_or code.instrs i x = search rules in
-    holds_behind code i x c.requires.inside is c.args.work.now c.requires.few (record c.advance.new.work { memory = c.capture.new.memory }) c.in-Scans.ensures.clean
+    holds_after code i x c.requires.inside is c.args.work.now c.requires.few (record c.advance.new.work { memory = c.capture.new.memory }) c.in-Scans.ensures.clean

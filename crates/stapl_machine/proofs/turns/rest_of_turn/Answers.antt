@@ -3,7 +3,7 @@ use Rattle.stapl_instructions.specs.declared.control.Went.TheVariants as went
 use Rattle.machine_memory.specs.Acts.{state_of}
 use Rattle.stapl_instructions.specs.Moves.{led_on}
 use Rattle.written_cable.specs.Pins.{port_breakage}
-use Rattle.stapl_machine.specs.Turns.{rest_of, ticks_from, no_ticks, behind_it, ticks_behind_it, IsCleanBehind}
+use Rattle.stapl_machine.specs.Turns.{rest_of, ticks_from, no_ticks, after_it, ticks_after_it, IsCleanBehind}
 use Rattle.written_cable.proofs.DeedLemmas.{kept_none, kept_both}
 use Rattle.stapl_instructions.proofs.OperandLemmas.{room_kept}
 use Rattle.stapl_machine.proofs.TurnLemmas.{does_still, does_same, does_of, front_of, does_both, does_both_front}
@@ -47,7 +47,7 @@ parts-preserved g c =
           (ticks_from code i chosen mid) (ticks_from code c.parts.place chosen old) (ticks_from code (i + 1) chosen new) c.parts.steps c.carry_out_common.new.steps c.carry_out.new.steps
           (c.in-Within.ensures.does chosen) (c.in-Within.ensures.ticks chosen)
           (does_same b m.board m.made s c.parts.port c.carry_out.new.port (rest_of code i chosen mid) (ticks_from code i chosen mid) c.carry_out_common.new.steps c.carry_out.new.steps
-          (λ e. behind_it code i chosen new e) (λ e. ticks_behind_it code i chosen new e) c.in-Ok-None.field-0-is c.in-Ok-None.ensures.does));
+          (λ e. after_it code i chosen new e) (λ e. ticks_after_it code i chosen new e) c.in-Ok-None.field-0-is c.in-Ok-None.ensures.does));
       kept = kept_both c.parts.invariant.kept c.in-Ok-None.ensures.keeps.kept;
     }
 
@@ -83,7 +83,7 @@ returns-in-Ok-Some-clause-does g c =
     (ticks_from code i chosen mid) (ticks_from code c.parts.place chosen old) no_ticks c.parts.steps c.carry_out_common.new.steps c.carry_out.new.steps
     (c.in-Within.ensures.does chosen) (c.in-Within.ensures.ticks chosen)
     (does_same b m.board m.made s c.parts.port c.carry_out.new.port (rest_of code i chosen mid) (ticks_from code i chosen mid) c.carry_out_common.new.steps c.carry_out.new.steps
-    (λ e. behind_it code i chosen new e) (λ e. ticks_behind_it code i chosen new e) c.in-Ok-Some.field-0-is c.in-Ok-Some.ensures.does))
+    (λ e. after_it code i chosen new e) (λ e. ticks_after_it code i chosen new e) c.in-Ok-Some.field-0-is c.in-Ok-Some.ensures.does))
 
 pub returns-in-Err-clause-does : goal.returns-in-Err-clause-does
 returns-in-Err-clause-does g c =

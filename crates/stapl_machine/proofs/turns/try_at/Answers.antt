@@ -1,5 +1,5 @@
 use Rattle.std.proofs.Common.{rules, ◌≡◌, [], get_or}
-use Rattle.stapl_instructions.proofs.OperandLemmas.{tried_leaves, count_fits, holds_behind, holds_still, same_count}
+use Rattle.stapl_instructions.proofs.OperandLemmas.{tried_leaves, count_fits, holds_after, holds_still, same_count}
 use Rattle.stapl_machine.proofs.TryLemmas.{on_goes, on_counts, to_goes, to_counts, not_goes, not_counts}
 use Rattle.stapl_machine.proofs.turns.try_at.Goals as goal
 
@@ -41,7 +41,7 @@ pub returns-in-On-clause-clean : goal.returns-in-On-clause-clean
 returns-in-On-clause-clean g c =
     let code = c.args.code.now in let i = c.args.i in let x = c.index-as_slice-i.result in let is : x ≡ get_or code.instrs i x = search rules in
     let old = c.args.work.now in let new = c.try_step.new.work in
-    holds_behind code i x c.requires.inside is old c.requires.few new (tried_leaves code i x [] old new (c.in-On.ensures.tried []))
+    holds_after code i x c.requires.inside is old c.requires.few new (tried_leaves code i x [] old new (c.in-On.ensures.tried []))
 
 pub returns-in-Not-clause-clean : goal.returns-in-Not-clause-clean
 returns-in-Not-clause-clean g c =

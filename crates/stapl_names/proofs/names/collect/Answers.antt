@@ -7,7 +7,7 @@ pub loop-i-preserved : goal.loop-i-preserved
 loop-i-preserved c =
     let at = c.index-stmts-i in
     under_way_more c.args.pieces.now c.args.stmts.now c.loop-i.i _ at.result _ _ _ _ _ c.requires.alike c.loop-i-test.true at.is
-    c.inside_behind-inside.ensures c.loop-i.invariant c.in-Ok.ensures
+    c.inside_next-inside.ensures c.loop-i.invariant c.in-Ok.ensures
 
 pub invariant_of-result : goal.invariant_of-result
 invariant_of-result c =

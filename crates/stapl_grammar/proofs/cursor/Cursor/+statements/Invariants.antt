@@ -4,8 +4,8 @@ use Rattle.stapl_grammar.proofs.cursor.Cursor.+statements.Given as goal
 abbrev pub decreases-if_then : goal.decreases-if_then
 decreases-if_then l = 4 * length l.self.now + 2
 
-abbrev pub decreases-simple_behind : goal.decreases-simple_behind
-decreases-simple_behind l = 4 * length l.self.now + 3
+abbrev pub decreases-simple_after : goal.decreases-simple_after
+decreases-simple_after l = 4 * length l.self.now + 3
 
 abbrev pub decreases-simple : goal.decreases-simple
 decreases-simple l = 4 * length l.self.now

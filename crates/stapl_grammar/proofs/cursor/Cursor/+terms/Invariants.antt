@@ -6,8 +6,8 @@ use Rattle.stapl_grammar.proofs.cursor.Cursor.+terms.Given as goal
 abbrev pub decreases-array_term : goal.decreases-array_term
 decreases-array_term l = 6 * length l.self.now
 
-abbrev pub decreases-array_behind : goal.decreases-array_behind
-decreases-array_behind l = 6 * length l.self.now + 5
+abbrev pub decreases-array_after : goal.decreases-array_after
+decreases-array_after l = 6 * length l.self.now + 5
 
 abbrev pub decreases-level_expr : goal.decreases-level_expr
 decreases-level_expr l = 6 * length l.self.now + 2

@@ -7,7 +7,7 @@ use Rattle.stapl_instructions.specs.Moves.{led_on}
 use Rattle.written_cable.specs.Pins.{port_breakage}
 use Rattle.stapl_machine.specs.Runs.{run_of, run_ticks_of, chosen_run, chosen_ticks, begun_run, begun_ticks}
 use Rattle.stapl_machine.proofs.RunLemmas.{to_same, front_same, runs_still, begun_on, begun_ticks_on, over_lacks}
-use Rattle.stapl_machine.proofs.runs.run_behind.Goals as goal
+use Rattle.stapl_machine.proofs.runs.run_after.Goals as goal
 
 pub returns-in-Ok-clause-runs : goal.returns-in-Ok-clause-runs
 returns-in-Ok-clause-runs g c =
