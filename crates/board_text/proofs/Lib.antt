@@ -15,3 +15,4 @@ pub mod BoardLemmas
 pub mod OneAnswer
 pub mod EveryText
 pub mod OneShape
+pub mod BoardFits

@@ -4,7 +4,7 @@ ghost use Rattle.dev_card.specs.declared.desc.Desc.{Desc};
 ghost use Rattle.board_text.specs.declared.reason.BoardReason.{BoardReason};
 ghost use Rattle.board_text.specs.declared.shapes.Shape.{Shape};
 ghost use Rattle.board_text.specs.Shapes.{fits, places_of};
-ghost use Rattle.board_text.specs.Boards.{IsBoard, IsFirstFault};
+ghost use Rattle.board_text.specs.Boards.{IsBoard, IsFirstFault, CanBeFitted};
 
 /// Words have one shape at most.
 pub fn words_have_one_shape()
@@ -33,4 +33,10 @@ pub fn one_first_fault()
 pub fn no_board_has_a_fault()
     ensures { (text : List ℕ) (devices : List Desc) (n : ℕ) (r : BoardReason) → IsBoard text devices →
         IsFirstFault text n r → ⊥ }
+{}
+
+/// The devices of each board can be fitted: there is one at least, there are at most as many as a board may have, and
+/// each is good.
+pub fn each_board_can_be_fitted()
+    ensures { (text : List ℕ) (devices : List Desc) → IsBoard text devices → CanBeFitted devices }
 {}

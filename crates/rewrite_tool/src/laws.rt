@@ -1,7 +1,7 @@
 //! Laws of the definitions.
 ghost use Rattle.std.specs.Prelude.{◌≡◌, ◌⊎◌, ℕ, List, Some, IsSome};
 ghost use Rattle.dev_card.specs.declared.desc.Desc.{Desc};
-ghost use Rattle.board_text.specs.Boards.{CanBeFitted};
+ghost use Rattle.board_text.specs.Boards.{IsBoard};
 ghost use Rattle.command_words.specs.declared.place_run.PlaceRun.{PlaceRun};
 ghost use Rattle.tool_frame.specs.Files.{OfFiles};
 ghost use Rattle.named_files.specs.Contents.{Contents, NamesBoth, both_of};
@@ -11,7 +11,7 @@ ghost use Rattle.rewrite_tool.specs.Words.{Request, IsRequest, Asks, IsUsage};
 ghost use Rattle.rewrite_tool.specs.Answers.{ProgramAnswer, RequestAnswer, WordsAnswer, Answer};
 ghost use Rattle.rewrite_tool.specs.PlayedAlike.{IsPlayedAlike};
 
-use board_text::laws::every_text_is_a_board_or_has_a_fault;
+use board_text::laws::{each_board_can_be_fitted, every_text_is_a_board_or_has_a_fault};
 use carried_padding::laws::a_carried_text_plays_as_its_program_with_base_padding;
 
 /// The words are a request, or have exactly one first word that is not as stated.
@@ -47,10 +47,12 @@ pub fn told_files_are_answered()
 
 /// A program that is written plays on the whole board, without base padding and for five turns more, as the program of
 /// the file does at the run: it has the same events, clocks among them, outcome, variables and board, for every choice
-/// and number of turns. Each board that is read can be fitted.
+/// and number of turns.
 pub fn what_is_written_plays_as_the_program_at_its_place()
-    ensures { (devices : List Desc) (run : PlaceRun) (bytes text : List ℕ) → CanBeFitted devices →
-        ProgramAnswer devices run bytes text Done → IsPlayedAlike devices run bytes text }
+    ensures { (board : List ℕ) (devices : List Desc) (run : PlaceRun) (bytes text : List ℕ) →
+        IsBoard board devices → ProgramAnswer devices run bytes text Done →
+        IsPlayedAlike devices run bytes text }
 {
+    each_board_can_be_fitted();
     a_carried_text_plays_as_its_program_with_base_padding();
 }
