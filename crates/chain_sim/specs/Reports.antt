@@ -2,6 +2,7 @@
 use Rattle.std.specs.Prelude.{◌≡◌, ℕ, Bool, List, [], ◌++◌, Option, Some, None, codes, slice_index_or}
 use Rattle.base.specs.Bits.{low_bits}
 use Rattle.tool_io.specs.declared.lines.Lines.{Lines}
+use Rattle.tool_io.specs.declared.outside.Sink.{Ghosts as SinkOf}
 use Rattle.tool_io.specs.Lines.{Puts}
 use Rattle.dev_card.specs.Card.{Card}
 use Rattle.bit_list.specs.Hexadecimal.{all_hex_digits}
@@ -34,8 +35,8 @@ report_in None = []
 report_in (Some cs) = report_of cs
 
 -- A text was put, and with this rest it is the whole.
-pub record PutsBut {K : Type 0} (written : K → Option (List ℕ)) (whole : List ℕ) (old : Lines K) (rest : List ℕ)
+pub record PutsBut {K : Type 0} (sink : SinkOf K) (whole : List ℕ) (old : Lines K) (rest : List ℕ)
     (new : Lines K) : Type 0 where
   pub front : List ℕ
-  pub put : Puts written old front new
+  pub put : Puts sink old front new
   pub all : front ++ rest ≡ whole

@@ -8,7 +8,7 @@ ghost use Rattle.bit_list.specs.Hexadecimal.{all_hex_digits};
 ghost use Rattle.dev_card.specs.PaddedScan.{descriptions_of};
 ghost use Rattle.dev_card.specs.Reports.{named_text, registers_text, are_ones, word_text, words_text, memory_text};
 ghost use Rattle.dev_card.specs.Sound.{card_in};
-ghost use Rattle.tool_io.specs.Lines.{IsWhole, HasPut, KeepsLines};
+ghost use Rattle.tool_io.specs.Lines.{IsWhole, HasPut};
 ghost use Rattle.chain_sim.specs.Places.{card_at, cards_at};
 ghost use Rattle.chain_sim.specs.Reports.{cells_in, cell_in, instruction_in, held_in, line_in, report_in};
 
@@ -37,9 +37,8 @@ fn word_of<D: Device>(device: &D, cell: u32, at: u32, n: u32) -> u64
 fn put_cell<D: Device, K: Sink>(out: &mut Lines<K>, device: &D, cell: u32) -> Result<(), Failed>
     requires whole { IsWhole out.old }
     requires cell { cell < length (cells_in (card_in (D.fitted device.now))) }
-    ensures put { HasPut K.written out.old
+    ensures { HasPut K.Sink out.old
         (all_hex_digits (cell_in (card_in (D.fitted device.now)) cell)) out.new result }
-    ensures kept { KeepsLines K.faults K.is_last out.old out.new result }
 {
     let mut left = length_of(device, cell);
     'down: while left > 0 {
@@ -53,8 +52,7 @@ fn put_cell<D: Device, K: Sink>(out: &mut Lines<K>, device: &D, cell: u32) -> Re
 // Puts a name, between a space and an equals sign.
 fn put_name<K: Sink>(out: &mut Lines<K>, name: &[u8]) -> Result<(), Failed>
     requires { IsWhole out.old }
-    ensures put { HasPut K.written out.old (codes " " ++ name.now ++ codes "=") out.new result }
-    ensures kept { KeepsLines K.faults K.is_last out.old out.new result }
+    ensures { HasPut K.Sink out.old (codes " " ++ name.now ++ codes "=") out.new result }
 {
     out.put(b" ")?;
     out.put(name)?;
@@ -71,9 +69,8 @@ fn put_named_cell<D: Device, K: Sink>(
 ) -> Result<(), Failed>
     requires whole { IsWhole out.old }
     requires cell { cell < length (cells_in (card_in (D.fitted device.now))) }
-    ensures put { HasPut K.written out.old
+    ensures { HasPut K.Sink out.old
         (named_text name.now (all_hex_digits (cell_in (card_in (D.fitted device.now)) cell))) out.new result }
-    ensures kept { KeepsLines K.faults K.is_last out.old out.new result }
 {
     put_name(out, name)?;
     put_cell(out, device, cell)?;
@@ -89,9 +86,8 @@ fn put_registers<D: Device, K: Sink>(
     requires whole { IsWhole out.old }
     requires cells { length registers.now ≡ length (cells_in (card_in (D.fitted device.now))) }
     requires few { length registers.now ≤ 64 }
-    ensures put { HasPut K.written out.old
+    ensures { HasPut K.Sink out.old
         (registers_text registers.now (cells_in (card_in (D.fitted device.now)))) out.new result }
-    ensures kept { KeepsLines K.faults K.is_last out.old out.new result }
 {
     for i in 0..registers.len() {
         put_named_cell(out, registers[i].name.bytes(), device, i as u32)?;
@@ -134,10 +130,9 @@ fn put_numbered_cell<D: Device, K: Sink>(
 ) -> Result<(), Failed>
     requires whole { IsWhole out.old }
     requires cell { cell < length (cells_in (card_in (D.fitted device.now))) }
-    ensures put { HasPut K.written out.old
+    ensures { HasPut K.Sink out.old
         (named_text (signed_decimal (pos number)) (all_hex_digits (cell_in (card_in (D.fitted device.now)) cell)))
         out.new result }
-    ensures kept { KeepsLines K.faults K.is_last out.old out.new result }
 {
     put_count(out, b" ", number)?;
     out.put(b"=")?;
@@ -150,9 +145,8 @@ fn put_word<D: Device, K: Sink>(out: &mut Lines<K>, device: &D, number: u32) -> 
     requires whole { IsWhole out.old }
     requires cell { number + 1 < length (cells_in (card_in (D.fitted device.now))) }
     requires fits { number + 1 < 2 ^ 32 }
-    ensures put { HasPut K.written out.old
+    ensures { HasPut K.Sink out.old
         (word_text number (cell_in (card_in (D.fitted device.now)) (number + 1))) out.new result }
-    ensures kept { KeepsLines K.faults K.is_last out.old out.new result }
 {
     if is_ones(device, number + 1) {
         return Ok(());
@@ -172,9 +166,8 @@ fn count_of<D: Device>(device: &D) -> u32
 fn put_words<D: Device, K: Sink>(out: &mut Lines<K>, device: &D) -> Result<(), Failed>
     requires whole { IsWhole out.old }
     requires address { 1 ≤ length (cells_in (card_in (D.fitted device.now))) }
-    ensures put { HasPut K.written out.old
+    ensures { HasPut K.Sink out.old
         (words_text 0 (drop 1 (cells_in (card_in (D.fitted device.now))))) out.new result }
-    ensures kept { KeepsLines K.faults K.is_last out.old out.new result }
 {
     for number in 0..count_of(device) - 1 {
         put_word(out, device, number)?;
@@ -186,8 +179,7 @@ fn put_words<D: Device, K: Sink>(out: &mut Lines<K>, device: &D) -> Result<(), F
 fn put_memory<D: Device, K: Sink>(out: &mut Lines<K>, device: &D) -> Result<(), Failed>
     requires whole { IsWhole out.old }
     requires address { 1 ≤ length (cells_in (card_in (D.fitted device.now))) }
-    ensures put { HasPut K.written out.old (memory_text (cells_in (card_in (D.fitted device.now)))) out.new result }
-    ensures kept { KeepsLines K.faults K.is_last out.old out.new result }
+    ensures { HasPut K.Sink out.old (memory_text (cells_in (card_in (D.fitted device.now)))) out.new result }
 {
     put_named_cell(out, b"addr", device, 0)?;
     put_words(out, device)?;
@@ -198,8 +190,7 @@ fn put_memory<D: Device, K: Sink>(out: &mut Lines<K>, device: &D) -> Result<(), 
 fn put_held<D: Device, K: Sink>(out: &mut Lines<K>, device: &D, desc: &Desc) -> Result<(), Failed>
     requires whole { IsWhole out.old }
     requires desc { IsSomeAnd (card_in (D.fitted device.now)) (λ c. c.desc ≡ desc.now) }
-    ensures put { HasPut K.written out.old (held_in (card_in (D.fitted device.now))) out.new result }
-    ensures kept { KeepsLines K.faults K.is_last out.old out.new result }
+    ensures { HasPut K.Sink out.old (held_in (card_in (D.fitted device.now))) out.new result }
 {
     match desc.kind {
         Kind::Plain => Ok(()),
@@ -216,8 +207,7 @@ fn put_instruction<D: Device, K: Sink>(
 ) -> Result<(), Failed>
     requires whole { IsWhole out.old }
     requires desc { IsSomeAnd (card_in (D.fitted device.now)) (λ c. c.desc ≡ desc.now) }
-    ensures put { HasPut K.written out.old (instruction_in (card_in (D.fitted device.now))) out.new result }
-    ensures kept { KeepsLines K.faults K.is_last out.old out.new result }
+    ensures { HasPut K.Sink out.old (instruction_in (card_in (D.fitted device.now))) out.new result }
 {
     let opcode = device.instruction();
     put_name(out, b"ir")?;
@@ -229,8 +219,7 @@ fn put_instruction<D: Device, K: Sink>(
 fn put_line<D: Device, K: Sink>(out: &mut Lines<K>, device: &D, desc: &Desc) -> Result<(), Failed>
     requires whole { IsWhole out.old }
     requires desc { IsSomeAnd (card_in (D.fitted device.now)) (λ c. c.desc ≡ desc.now) }
-    ensures put { HasPut K.written out.old (line_in (card_in (D.fitted device.now))) out.new result }
-    ensures kept { KeepsLines K.faults K.is_last out.old out.new result }
+    ensures { HasPut K.Sink out.old (line_in (card_in (D.fitted device.now))) out.new result }
 {
     let name = desc.name.bytes();
     out.put(b"D ")?;
@@ -256,8 +245,7 @@ pub fn put_report<D: Device, K: Sink>(
 ) -> Result<(), Failed>
     requires whole { IsWhole out.old }
     requires board { IsSomeAnd (cards_at (map D.fitted rack.now) places.now) (λ cs. descriptions_of cs ≡ descs.now) }
-    ensures put { HasPut K.written out.old (report_in (cards_at (map D.fitted rack.now) places.now)) out.new result }
-    ensures kept { KeepsLines K.faults K.is_last out.old out.new result }
+    ensures { HasPut K.Sink out.old (report_in (cards_at (map D.fitted rack.now) places.now)) out.new result }
 {
     for i in 0..descs.len() {
         let desc = &descs[i];

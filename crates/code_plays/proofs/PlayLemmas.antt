@@ -1,14 +1,15 @@
 -- On plays of a code.
 use Rattle.std.proofs.Common.{◌≡◌, ◌≢◌, ◌≤◌, ◌-◌, ◌&&◌, nat_le, true, Bool, ℕ, zero, suc, List, [], ◌∷◌, ◌++◌, length, take, drop, map, refl, sym, ap, ap₂, ◌∙◌, subst, arith, ◌<◌, ◌⊎◌, inl, inr, Option, None, Some}
-use Rattle.std.specs.Prelude.{IsSomeAnd, IsErrAnd, Result, Ok, Err, OnOk}
+use Rattle.std.specs.Prelude.{IsSomeAnd, IsErr, IsErrAnd, Result, Ok, Err, OnOk}
 use Rattle.std.specs.Option.{option_map}
 use Rattle.std.proofs.lemmas.Bool.{and_parts}
 use Rattle.std.proofs.lemmas.Bool.Decides.{nat_tests}
 use Rattle.std.proofs.lemmas.List.{take-map, drop-map}
 use Rattle.std.proofs.lemmas.Option.{same_Some}
 use Rattle.tool_io.specs.declared.lines.Lines.{Lines}
-use Rattle.tool_io.specs.Lines.{Puts, PutsFront}
-use Rattle.tool_io.proofs.PutLemmas.{put_then, put_then_front, front_with}
+use Rattle.tool_io.specs.declared.outside.Sink.{Ghosts as SinkOf}
+use Rattle.tool_io.specs.Lines.{Puts, PutsFront, PutsBroken}
+use Rattle.tool_io.proofs.PutLemmas.{put_then, put_then_front, front_with, front_more}
 use Rattle.tool_frame.specs.declared.no_answer.NoAnswer.{NoAnswer}
 use Rattle.tool_frame.specs.declared.no_answer.NoAnswer.TheVariants.{Write}
 use Rattle.tool_frame.specs.Answers.{Said, SaidFront, Says}
@@ -41,7 +42,7 @@ use Rattle.play_status.specs.Statuses.{IsPlayed, ComesBeforeFitting}
 use Rattle.command_words.specs.declared.place_run.PlaceRun.{PlaceRun}
 use Rattle.play_words.specs.declared.requests.PlayRequest.{PlayRequest}
 use Rattle.code_plays.specs.Plays.{done_with, has_place, reported_far, asked_text, Plays, played}
-use Rattle.code_plays.specs.CodePlays.{NeverRises, HasEnding, line_of, run_lines, Ends, IsPlayOf}
+use Rattle.code_plays.specs.CodePlays.{NeverRises, HasEnding, line_of, run_lines, Ends, IsPlayOf, PutsText}
 use Rattle.code_plays.specs.Racks.{far_at, AreLeft, KeepsRack}
 
 -- A run that does not stop comes to an ending.
@@ -73,44 +74,49 @@ lines_are : (request : PlayRequest) (run : Run) (ending : Ending) → ending_of 
 lines_are request run ending e =
     ap (λ (o : Option Ending). events_text request.pins [] run.events ++ asked_report request.report (reported_far request.place run.chain.far) ++ line_of o) e
 
+-- at the exit of a `?`
+pub text_failed : {K T E : Type 0} {sink : SinkOf K} {a b : Lines K} {xs : List ℕ} (r : Result T E) → IsErr r → PutsFront sink a xs b → PutsText sink a xs b r
+text_failed (Ok x) is front = absurd cc
+text_failed (Err e) is front = front
+
 -- those of the events failed, or the report, or the line of the ending; or all were put
-pub events_failed : {K : Type 0} {written : K → Option (List ℕ)} {a b : Lines K} (request : PlayRequest) (run : Run) →
-    PutsFront written a (events_text request.pins [] run.events) b → PutsFront written a (run_lines request run) b
-events_failed request run front = front_with (line_of (ending_of run.outcome)) (front_with (asked_report request.report (reported_far request.place run.chain.far)) front)
+pub events_failed : {K : Type 0} {sink : SinkOf K} {a b : Lines K} (request : PlayRequest) (run : Run) →
+    PutsFront sink a (events_text request.pins [] run.events) b → PutsFront sink a (run_lines request run) b
+events_failed request run front = front_more (line_of (ending_of run.outcome)) (front_more (asked_report request.report (reported_far request.place run.chain.far)) front)
 
-pub report_failed : {K : Type 0} {written : K → Option (List ℕ)} {a b c : Lines K} (request : PlayRequest) (run : Run) → Puts written a (events_text request.pins [] run.events) b →
-    PutsFront written b (asked_report request.report (reported_far request.place run.chain.far)) c → PutsFront written a (run_lines request run) c
-report_failed request run puts front = front_with (line_of (ending_of run.outcome)) (put_then_front puts front)
+pub report_failed : {K : Type 0} {sink : SinkOf K} {a b c : Lines K} (request : PlayRequest) (run : Run) → Puts sink a (events_text request.pins [] run.events) b →
+    PutsBroken sink b (asked_report request.report (reported_far request.place run.chain.far)) c → PutsFront sink a (run_lines request run) c
+report_failed request run puts front = (front_with (line_of (ending_of run.outcome)) (put_then_front puts front)).put
 
-pub ending_failed : {K : Type 0} {written : K → Option (List ℕ)} {a b c d : Lines K} (request : PlayRequest) (run : Run) (ending : Ending) → ending_of run.outcome ≡ Some ending →
-    Puts written a (events_text request.pins [] run.events) b → Puts written b (asked_report request.report (reported_far request.place run.chain.far)) c →
-    PutsFront written c (ending_line ending) d → PutsFront written a (run_lines request run) d
-ending_failed {written = written} {c = c} {d = d} request run ending e puts reported front =
-    put_then_front (put_then puts reported) (subst (λ (o : Option Ending). PutsFront written c (line_of o) d) (sym e) front)
+pub ending_failed : {K : Type 0} {sink : SinkOf K} {a b c d : Lines K} (request : PlayRequest) (run : Run) (ending : Ending) → ending_of run.outcome ≡ Some ending →
+    Puts sink a (events_text request.pins [] run.events) b → Puts sink b (asked_report request.report (reported_far request.place run.chain.far)) c →
+    PutsBroken sink c (ending_line ending) d → PutsFront sink a (run_lines request run) d
+ending_failed {sink = sink} {c = c} {d = d} request run ending e puts reported front =
+    (put_then_front (put_then puts reported) (subst (λ (o : Option Ending). PutsBroken sink c (line_of o) d) (sym e) front)).put
 
-pub run_put : {K : Type 0} {written : K → Option (List ℕ)} {a b c d : Lines K} (request : PlayRequest) (run : Run) (ending : Ending) → ending_of run.outcome ≡ Some ending →
-    Puts written a (events_text request.pins [] run.events) b → Puts written b (asked_report request.report (reported_far request.place run.chain.far)) c →
-    Puts written c (ending_line ending) d → Puts written a (run_lines request run) d
-run_put {written = written} {c = c} {d = d} request run ending e puts reported ended =
-    put_then (put_then puts reported) (subst (λ (o : Option Ending). Puts written c (line_of o) d) (sym e) ended)
+pub run_put : {K : Type 0} {sink : SinkOf K} {a b c d : Lines K} (request : PlayRequest) (run : Run) (ending : Ending) → ending_of run.outcome ≡ Some ending →
+    Puts sink a (events_text request.pins [] run.events) b → Puts sink b (asked_report request.report (reported_far request.place run.chain.far)) c →
+    Puts sink c (ending_line ending) d → Puts sink a (run_lines request run) d
+run_put {sink = sink} {c = c} {d = d} request run ending e puts reported ended =
+    put_then (put_then puts reported) (subst (λ (o : Option Ending). Puts sink c (line_of o) d) (sym e) ended)
 
 -- What was put of a run is its text.
 
-pub run_said : {K : Type 0} {written : K → Option (List ℕ)} {a b : Lines K} (request : PlayRequest) (run : Run) (ending : Ending) (status : Status) →
-    ending_of run.outcome ≡ Some ending → status ≡ done_with ending → Puts written a (run_lines request run) b → Said written (Ends request run) a b status
-run_said {written = written} {a = a} {b = b} request run ending status e is puts = record {
+pub run_said : {K : Type 0} {sink : SinkOf K} {a b : Lines K} (request : PlayRequest) (run : Run) (ending : Ending) (status : Status) →
+    ending_of run.outcome ≡ Some ending → status ≡ done_with ending → Puts sink a (run_lines request run) b → Said sink (Ends request run) a b status
+run_said {sink = sink} {a = a} {b = b} request run ending status e is puts = record {
   text = asked_text request run.events run.chain.far ending;
   answer = record { ending = ending; comes = e; text_is = refl; status_is = is };
-  puts = subst (λ (text : List ℕ). Puts written a text b) (lines_are request run ending e) puts;
+  puts = subst (λ (text : List ℕ). Puts sink a text b) (lines_are request run ending e) puts;
 }
 
-pub run_said_front : {K : Type 0} {written : K → Option (List ℕ)} {a b : Lines K} (request : PlayRequest) (run : Run) → HasEnding run →
-    PutsFront written a (run_lines request run) b → SaidFront written (Ends request run) a b
-run_said_front {written = written} {a = a} {b = b} request run h front = record {
+pub run_said_front : {K : Type 0} {sink : SinkOf K} {a b : Lines K} (request : PlayRequest) (run : Run) → HasEnding run →
+    PutsFront sink a (run_lines request run) b → SaidFront sink (Ends request run) a b
+run_said_front {sink = sink} {a = a} {b = b} request run h front = record {
   text = asked_text request run.events run.chain.far h.ending;
   status = done_with h.ending;
   answer = record { ending = h.ending; comes = h.comes; text_is = refl; status_is = refl };
-  puts = subst (λ (text : List ℕ). PutsFront written a text b) (lines_are request run h.ending h.comes) front;
+  puts = subst (λ (text : List ℕ). PutsFront sink a text b) (lines_are request run h.ending h.comes) front;
 }
 
 -- What a call leaves of the rack.
@@ -122,15 +128,15 @@ not_early endings.Spent p = p
 
 -- a play was played
 pub rack_played : {D Kind K : Type 0} {kind_of : D → Kind} {fitted : D → Option SoundCard} {final : List (Option SoundCard) → Type 0} {before after : List D} {L : Type 0}
-    (written : K → Option (List ℕ)) (request : PlayRequest) (run : Run) (old new : Lines K) (r : Result Status NoAnswer) → Says written (Ends request run) ⊥ old new r →
+    (sink : SinkOf K) (request : PlayRequest) (run : Run) (old new : Lines K) (r : Result Status NoAnswer) → Says sink (Ends request run) ⊥ old new r →
     map kind_of after ≡ map kind_of before → OnOk r L → (L → final (map fitted after)) → KeepsRack kind_of fitted (Unit {0}) final before after r
-rack_played written request run old new (Ok status) says kinds left f = record {
+rack_played sink request run old new (Ok status) says kinds left f = record {
   kinds = kinds;
   early = λ p. absurd (not_early says.answer.ending (subst ComesBeforeFitting says.answer.status_is p));
   leaves = λ e p. f left;
   other = λ never. absurd (never tt);
 }
-rack_played written request run old new (Err e) says kinds left f = record { kinds = kinds; early = tt; leaves = λ e. tt; other = λ never. absurd (never tt) }
+rack_played sink request run old new (Err e) says kinds left f = record { kinds = kinds; early = tt; leaves = λ e. tt; other = λ never. absurd (never tt) }
 
 -- nothing was played
 pub rack_failed : {D Kind P : Type 0} {kind_of : D → Kind} {fitted : D → Option SoundCard} {final : List (Option SoundCard) → Type 0} {items : List D}

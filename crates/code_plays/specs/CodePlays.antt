@@ -1,6 +1,9 @@
 -- What a play through the code of a program finds.
-use Rattle.std.specs.Prelude.{◌≡◌, ℕ, Bool, true, List, [], ◌++◌, map, Option, None, Some}
+use Rattle.std.specs.Prelude.{◌≡◌, ℕ, Bool, true, List, [], ◌++◌, map, Option, None, Some, Result, Ok, Err}
 use Rattle.tool_io.specs.Causes.{HasRisen}
+use Rattle.tool_io.specs.declared.lines.Lines.{Lines}
+use Rattle.tool_io.specs.declared.outside.Sink.{Ghosts as SinkOf}
+use Rattle.tool_io.specs.Lines.{Puts, PutsFront}
 use Rattle.dev_card.specs.Card.{fresh}
 use Rattle.scan_paths.specs.Cables.{Signal}
 use Rattle.dev_card.specs.Padding.{BaseLengths}
@@ -27,6 +30,11 @@ far_play code procedures task far = whole_play code procedures task.request.now.
 -- the same on the fresh devices of the task's board
 abbrev pub task_play : CodeLists → List ℕ → Task → Run
 task_play code procedures task = far_play code procedures task (Told (map fresh task.devices.now))
+
+-- What a call puts that plays, by its result: the text, or a front of it.
+abbrev pub PutsText : {K T E : Type 0} → SinkOf K → Lines K → List ℕ → Lines K → Result T E → Type 0
+PutsText sink old text new (Ok x) = Puts sink old text new
+PutsText sink old text new (Err e) = PutsFront sink old text new
 
 -- no call on such a cable fails
 abbrev pub NeverRises : {C : Type 0} → (C → ℕ) → (C → Type 0) → Type 0

@@ -1,7 +1,6 @@
 //! The play of a code over a cable that tells its board and never fails.
 ghost use Rattle.std.specs.Prelude.{◌≡◌, ◌≢◌, ◌<◌, [], true, length, map, Some, OnOk, IfOk};
-ghost use Rattle.tool_io.specs.Lines.{IsWhole, HasPut};
-ghost use Rattle.tool_frame.specs.Answers.{KeepsSink};
+ghost use Rattle.tool_io.specs.Lines.{IsWhole};
 ghost use Rattle.scan_paths.specs.Cables.{whole, cable_faults, IsCableLast};
 ghost use Rattle.scan_paths.specs.Scans.{lengths_of};
 ghost use Rattle.dev_card.specs.Card.{fresh};
@@ -13,7 +12,7 @@ ghost use Rattle.written_cable.specs.declared.trouble.Trouble.TheVariants as tro
 ghost use Rattle.stapl_machine.specs.Machines.{IsPrepared};
 ghost use Rattle.code_plays.specs.Plays.{has_place};
 ghost use Rattle.board_text.specs.Boards.{CanBeFitted};
-ghost use Rattle.code_plays.specs.CodePlays.{task_base, task_play, NeverRises, WasClocked};
+ghost use Rattle.code_plays.specs.CodePlays.{task_base, task_play, NeverRises, WasClocked, PutsText};
 
 use crate::playing::Task;
 use base::Steps;
@@ -71,9 +70,8 @@ pub fn play_over_cable<C: Cable, K: Sink, L: Ledger>(
     requires whole_cable { C.breakage cable.old ≡ whole }
     requires sure { NeverRises (cable_faults C.line_faults C.pin_faults) (IsCableLast C.is_line_last C.is_pin_last) }
     requires whole { IsWhole lines.old }
-    ensures put { HasPut K.written lines.old (events_text task.now.request.now.pins []
+    ensures put { PutsText K.Sink lines.old (events_text task.now.request.now.pins []
         (task_play code.now chosen.now task.now).events) lines.new result }
-    ensures kept { KeepsSink K.faults K.is_last lines.old lines.new result }
     ensures ended { IfOk result (λ ending.
         ending_of (task_play code.now chosen.now task.now).outcome ≡ Some ending) }
     ensures clocked { WasClocked C.made cable.old cable.new }

@@ -1,7 +1,7 @@
 //! The play of a code.
 ghost use Rattle.std.specs.Prelude.{◌≡◌, [], true, length, map, Some, IsSomeAnd, IsTrue, OnOk, IfOk, IsErrOf};
-ghost use Rattle.tool_io.specs.Lines.{IsWhole, HasPut, KeepsLines};
-ghost use Rattle.tool_frame.specs.Answers.{Says, KeepsOutput, KeepsSink};
+ghost use Rattle.tool_io.specs.Lines.{IsWhole, HasPut};
+ghost use Rattle.tool_frame.specs.Answers.{Says};
 ghost use Rattle.stapl_meaning.specs.Choices.{no_action, bad_choice, chosen};
 ghost use Rattle.stapl_meaning.specs.Plays.{ending_of};
 ghost use Rattle.stapl_meaning.specs.Texts.{events_text, far_report, asked_report};
@@ -18,7 +18,7 @@ ghost use Rattle.chain_sim.specs.Chains.{IsOverSame as IsSameRack};
 ghost use Rattle.chain_sim.specs.Places.{cards_at, is_chain};
 ghost use Rattle.chain_sim.specs.Rack.{IsRack, places_of};
 ghost use Rattle.code_plays.specs.Plays.{done_with, has_place, reported_far, PlaysCode};
-ghost use Rattle.code_plays.specs.CodePlays.{task_play, NeverRises, WasClocked, HasEnding, run_lines, Ends};
+ghost use Rattle.code_plays.specs.CodePlays.{task_play, NeverRises, WasClocked, HasEnding, run_lines, Ends, PutsText};
 ghost use Rattle.code_plays.specs.Racks.{far_at, AreLeft, CodeHoldsFinal, KeepsRack};
 
 use crate::endings::put_ending;
@@ -73,9 +73,8 @@ fn play_chosen<C: Cable, K: Sink>(
     requires whole_cable { C.breakage cable.old ≡ whole }
     requires sure { NeverRises (cable_faults C.line_faults C.pin_faults) (IsCableLast C.is_line_last C.is_pin_last) }
     requires whole { IsWhole lines.old }
-    ensures put { HasPut K.written lines.old (events_text task.now.request.now.pins []
+    ensures put { PutsText K.Sink lines.old (events_text task.now.request.now.pins []
         (task_play code.now chosen.now task.now).events) lines.new result }
-    ensures kept { KeepsSink K.faults K.is_last lines.old lines.new result }
     ensures ended { IfOk result (λ ending. ending_of (task_play code.now chosen.now task.now).outcome ≡ Some ending) }
     ensures clocked { WasClocked C.made cable.old cable.new }
     ensures far { OnOk result ((task_play code.now chosen.now task.now).chain.far
@@ -102,9 +101,8 @@ fn play_over_chain<K: Sink>(
     requires cards { cards_at (map fitted (devices_of chain.old)) (chain_places chain.old)
         ≡ Some (map fresh task.now.devices.now) }
     requires whole { IsWhole lines.old }
-    ensures put { HasPut K.written lines.old (events_text task.now.request.now.pins []
+    ensures put { PutsText K.Sink lines.old (events_text task.now.request.now.pins []
         (task_play code.now chosen.now task.now).events) lines.new result }
-    ensures kept { KeepsSink K.faults K.is_last lines.old lines.new result }
     ensures ended { IfOk result (λ ending. ending_of (task_play code.now chosen.now task.now).outcome ≡ Some ending) }
     ensures left { OnOk result (AreLeft (map fitted (devices_of chain.new)) (chain_places chain.old)
         task.now.devices.now (task_play code.now chosen.now task.now).chain.far) }
@@ -132,9 +130,8 @@ fn play_on_chain<K: Sink>(
     requires chain { IsTrue (is_chain (map fitted rack.old.items) places.now) }
     requires cards { cards_at (map fitted rack.old.items) places.now ≡ Some (map fresh task.now.devices.now) }
     requires whole { IsWhole lines.old }
-    ensures put { HasPut K.written lines.old (events_text task.now.request.now.pins []
+    ensures put { PutsText K.Sink lines.old (events_text task.now.request.now.pins []
         (task_play code.now chosen.now task.now).events) lines.new result }
-    ensures kept { KeepsSink K.faults K.is_last lines.old lines.new result }
     ensures ended { IfOk result (λ ending. ending_of (task_play code.now chosen.now task.now).outcome ≡ Some ending) }
     ensures left { OnOk result (AreLeft (map fitted rack.new.items) places.now task.now.devices.now
         (task_play code.now chosen.now task.now).chain.far) }
@@ -157,9 +154,8 @@ fn put_reported<K: Sink>(
         descriptions_of cs ≡ task.now.devices.now) }
     requires counted { length places.now ≡ length task.now.devices.now }
     requires placed { has_place task.now.request.now.place task.now.devices.now ≡ true }
-    ensures put { HasPut K.written lines.old (far_report (reported_far task.now.request.now.place
+    ensures { HasPut K.Sink lines.old (far_report (reported_far task.now.request.now.place
         (far_at (map fitted rack.now) places.now))) lines.new result }
-    ensures kept { KeepsLines K.faults K.is_last lines.old lines.new result }
 {
     match task.request.place {
         Some(run) => {
@@ -182,9 +178,8 @@ fn put_asked_report<K: Sink>(
         descriptions_of cs ≡ task.now.devices.now) }
     requires counted { length places.now ≡ length task.now.devices.now }
     requires placed { has_place task.now.request.now.place task.now.devices.now ≡ true }
-    ensures put { HasPut K.written lines.old (asked_report task.now.request.now.report
+    ensures { HasPut K.Sink lines.old (asked_report task.now.request.now.report
         (reported_far task.now.request.now.place (far_at (map fitted rack.now) places.now))) lines.new result }
-    ensures kept { KeepsLines K.faults K.is_last lines.old lines.new result }
 {
     if task.request.report {
         put_reported(lines, task, rack, places)?;
@@ -210,9 +205,8 @@ fn put_play<K: Sink>(
     requires chain { IsTrue (is_chain (map fitted rack.old.items) places.now) }
     requires cards { cards_at (map fitted rack.old.items) places.now ≡ Some (map fresh task.now.devices.now) }
     requires whole { IsWhole lines.old }
-    ensures put { HasPut K.written lines.old (run_lines task.now.request.now (task_play code.now chosen.now task.now))
+    ensures put { PutsText K.Sink lines.old (run_lines task.now.request.now (task_play code.now chosen.now task.now))
         lines.new result }
-    ensures kept { KeepsSink K.faults K.is_last lines.old lines.new result }
     ensures ended { IfOk result (λ ending. ending_of (task_play code.now chosen.now task.now).outcome ≡ Some ending) }
     ensures left { OnOk result (AreLeft (map fitted rack.new.items) places.now task.now.devices.now
         (task_play code.now chosen.now task.now).chain.far) }
@@ -250,9 +244,8 @@ fn play_on_board<K: Sink>(
     requires rack { IsRack (map kind_of rack.old.items) }
     requires devices { CanBeFitted task.now.devices.now }
     requires whole { IsWhole lines.old }
-    ensures says { Says K.written (Ends task.now.request.now (task_play code.now chosen.now task.now)) ⊥
+    ensures says { Says K.Sink (Ends task.now.request.now (task_play code.now chosen.now task.now)) ⊥
         lines.old lines.new result }
-    ensures output { KeepsOutput K.faults K.is_last lines.old lines.new result }
     ensures left { OnOk result (AreLeft (map fitted rack.new.items) (places_of task.now.devices.now)
         task.now.devices.now (task_play code.now chosen.now task.now).chain.far) }
     ensures kinds { map kind_of rack.new.items ≡ map kind_of rack.old.items }
@@ -313,9 +306,8 @@ pub fn play_code<K: Sink>(
     requires rack { IsRack (map kind_of rack.old.items) }
     requires devices { CanBeFitted task.now.devices.now }
     requires whole { IsWhole lines.old }
-    ensures says { Says K.written (PlaysCode code.now task.now.request.now task.now.devices.now) ⊥
+    ensures says { Says K.Sink (PlaysCode code.now task.now.request.now task.now.devices.now) ⊥
         lines.old lines.new result }
-    ensures output { KeepsOutput K.faults K.is_last lines.old lines.new result }
     ensures rack { KeepsRack kind_of fitted (Unit {0})
         (CodeHoldsFinal code.now task.now.request.now task.now.devices.now)
         rack.old.items rack.new.items result }

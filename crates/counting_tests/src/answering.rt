@@ -1,7 +1,7 @@
 //! What is answered for the board in a file.
 ghost use Rattle.std.specs.Prelude.{◌≡◌, Some};
-ghost use Rattle.tool_io.specs.Lines.{IsWhole, IsSinkUntouched, HasPut, KeepsLines};
-ghost use Rattle.tool_frame.specs.Answers.{Says, KeepsOutput};
+ghost use Rattle.tool_io.specs.Lines.{IsWhole, IsSilent, HasPut};
+ghost use Rattle.tool_frame.specs.Answers.{Says};
 ghost use Rattle.tool_frame.specs.Files.{OfFile, KeepsShelf};
 ghost use Rattle.counting_tests.specs.Answers.{count_line, HeldAnswer};
 
@@ -15,8 +15,7 @@ use tool_io::{Failed, Lines, Shelf, Sink, put_number_line};
 // Puts how many devices a board has.
 fn put_devices<K: Sink>(lines: &mut Lines<K>, devices: &[Desc]) -> Result<(), Failed>
     requires { IsWhole lines.old }
-    ensures put { HasPut K.written lines.old (count_line devices.now) lines.new result }
-    ensures kept { KeepsLines K.faults K.is_last lines.old lines.new result }
+    ensures { HasPut K.Sink lines.old (count_line devices.now) lines.new result }
 {
     put_number_line(lines, b"devices ", devices.len() as i64)
 }
@@ -30,9 +29,8 @@ pub(crate) fn answer_file<S: Shelf, K: Sink>(
 ) -> Result<CountStatus, NoAnswer>
     requires { IsWhole lines.old }
     ensures says { OfFile (S.told shelf.old) (Some path.now) (λ held.
-        Says K.written (HeldAnswer held) (IsSinkUntouched lines.old lines.new) lines.old lines.new result) }
-    ensures shelf { KeepsShelf S.told S.faults S.is_last (λ read. read ≡ path.now) shelf.old shelf.new result }
-    ensures output { KeepsOutput K.faults K.is_last lines.old lines.new result }
+        Says K.Sink (HeldAnswer held) (IsSilent lines.old lines.new) lines.old lines.new result) }
+    ensures shelf { KeepsShelf S.Shelf (λ read. read ≡ path.now) shelf.old shelf.new result }
 {
     match board_named(alloc, shelf, path) {
         Ok(devices) => {

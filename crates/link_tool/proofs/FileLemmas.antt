@@ -2,6 +2,7 @@
 use Rattle.std.proofs.Common.{◌≡◌, ◌∙◌, ℕ, List, [], map, Option, None, Some, Result, Ok, Err, IfSome, refl, sym, ap}
 use Rattle.std.specs.Prelude.{IsErrAnd}
 use Rattle.tool_io.specs.Files.{file_of}
+use Rattle.tool_io.specs.Bytes.{then_bytes, MovesFront}
 use Rattle.tool_io.proofs.BytesLemmas.{then_bytes-nothing}
 use Rattle.dev_card.specs.declared.desc.Desc.{Desc}
 use Rattle.dev_card.specs.Card.{Card}
@@ -49,7 +50,7 @@ module _ {D Kind : Type 0} (kind_of : D → Kind) (fitted : D → Option SoundCa
   })
 
   -- what a session comes to
-  session_written : (bytes : List ℕ) (before after : Option (List ℕ)) (now : Option (List Card)) (r : Result LinkStatus NoAnswer) → IsSession (new_board devices) bytes before after now r →
+  session_written : (bytes : List ℕ) (before after : Option (List ℕ)) (now : Option (List Card)) (r : Result LinkStatus NoAnswer) → IsSession (new_board devices) bytes (λ text. after ≡ then_bytes before text) (λ text. MovesFront before text after) now r →
       HasAnswered (FileAnswer devices (Some bytes)) (FileDue devices (Some bytes)) before after r
   session_written bytes before after now (Ok status) s =
       record { text = session_answers (new_board devices) bytes; answer = record { text_is = refl; ends = s.ends }; written = s.wrote }
@@ -60,13 +61,13 @@ module _ {D Kind : Type 0} (kind_of : D → Kind) (fitted : D → Option SoundCa
   session_written bytes before after now (Err Memory) s = absurd s
 
   session_rack : (bytes : List ℕ) (before after : Option (List ℕ)) (olds news : List D) (r : Result LinkStatus NoAnswer) → map kind_of news ≡ map kind_of olds →
-      IsSession (new_board devices) bytes before after (cards_at (map fitted news) (places_of devices)) r → KeepsRack kind_of fitted (HoldsLeft devices bytes) olds news r
+      IsSession (new_board devices) bytes (λ text. after ≡ then_bytes before text) (λ text. MovesFront before text after) (cards_at (map fitted news) (places_of devices)) r → KeepsRack kind_of fitted (HoldsLeft devices bytes) olds news r
   session_rack bytes before after olds news (Ok status) kinds s = record { kinds = kinds; early = λ p. absurd (end_is_late s.ends p); leaves = λ p. s.leaves }
   session_rack bytes before after olds news (Err e) kinds s = rack_kept e kinds
 
   pub of_session : (told : Option (List (List ℕ × List ℕ))) (left path : List ℕ) (before after : Option (List ℕ)) (olds news : List D) (r : Result LinkStatus NoAnswer) →
       map kind_of news ≡ map kind_of olds → IfSome told (λ files. file_of files path ≡ Some left) →
-      HasServed told left (new_board devices) before after (cards_at (map fitted news) (places_of devices)) r → FileSays told path before after olds news r
+      HasServed told left (new_board devices) (λ text. after ≡ then_bytes before text) (λ text. MovesFront before text after) (cards_at (map fitted news) (places_of devices)) r → FileSays told path before after olds news r
   of_session told left path before after olds news r kinds starts h = of_whole_file told path h.bytes (by told starts h.read) (record {
     written = session_written h.bytes before after (cards_at (map fitted news) (places_of devices)) r h.does;
     rack = session_rack h.bytes before after olds news r kinds h.does;

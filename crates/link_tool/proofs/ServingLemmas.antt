@@ -9,11 +9,11 @@ use Rattle.std.proofs.lemmas.Bool.Decides.{nat_tests}
 use Rattle.std.proofs.lemmas.List.{append-nil, length-take-le, length-drop}
 use Rattle.std.proofs.lemmas.Option.{none-some, same_Some}
 use Rattle.tool_io.specs.declared.lines.Lines.{Lines}
+use Rattle.tool_io.specs.declared.outside.Sink.{Ghosts as SinkOf}
 use Rattle.tool_io.specs.Bytes.{then_bytes, MovesFront}
 use Rattle.tool_io.specs.Files.{Gives}
-use Rattle.tool_io.specs.Lines.{gathered, taken, Puts, PutsFront}
-use Rattle.tool_io.proofs.BytesLemmas.{then_bytes-twice, then_bytes-nothing, moves_of_all, moves_then_front, moves_with, moves_front_with}
-use Rattle.tool_io.proofs.PutLemmas.{all_written, front_written, finish_front, puts_same, front_same}
+use Rattle.tool_io.specs.Lines.{gathered, sink_of, taken, IsWhole, IsOverSame, Puts, PutsFront, PutsBroken}
+use Rattle.tool_io.proofs.PutLemmas.{puts_nothing, put_then, put_then_front, front_with, puts_end, front_end, all_written, front_written, puts_same, front_same, put_failed}
 use Rattle.dev_card.specs.Card.{Card}
 use Rattle.link_server.specs.declared.link.LinkState.{LinkState}
 use Rattle.link_server.specs.declared.link.LinkState.TheVariants as states
@@ -23,12 +23,13 @@ use Rattle.link_server.specs.Runs.{LinkAt, LinkRun, new_link, link_run, is_open,
 use Rattle.link_server.proofs.Cuts.{end_joined, answers_joined, taken_joined}
 use Rattle.link_server.proofs.FeedLemmas.{closed_after, closed_answers, closed_taken}
 use Rattle.tool_frame.specs.declared.no_answer.NoAnswer.{NoAnswer}
-use Rattle.tool_frame.specs.declared.no_answer.NoAnswer.TheVariants.{Read, Write}
+use Rattle.tool_frame.specs.declared.no_answer.NoAnswer.TheVariants.{Read, Write, Memory}
+use Rattle.tool_frame.specs.Frame.{KeepsCount}
 use Rattle.link_tool.specs.declared.status.LinkStatus.{LinkStatus}
 use Rattle.link_tool.specs.declared.status.LinkStatus.TheVariants.{Done, BadByte, TooLong}
 use Rattle.link_tool.specs.declared.session.Session.{Session}
 use Rattle.link_tool.specs.Sessions.{most_bytes, session_bytes, link_to, first_answers, EndsWith, at_end, at_limit}
-use Rattle.link_tool.specs.Pieces.{session_at, HasTaken, status_after, HasServed}
+use Rattle.link_tool.specs.Pieces.{session_at, HasTaken, status_after, PutsOut, IsSession, HasServed}
 use Rattle.link_tool.proofs.EndLemmas.{all_taken, open_end, quit_end, bad_end}
 
 -- ---- one piece
@@ -41,37 +42,31 @@ front_is : (at : LinkAt) (bytes old_buffer buffer : List ℕ) (now : Link) (told
     take fed.answered buffer ≡ (link_run at bytes).answers
 front_is at bytes old_buffer buffer now told fed f = front_of_buffer (link_run at bytes).answers buffer (drop fed.answered old_buffer) fed.answered f.answers f.answered
 
-module _ {K : Type 0} {written : K → Option (List ℕ)} {old new : Session} {cs : List Card} {bytes old_buffer buffer : List ℕ} {told : Option (List Card)} {before : Lines K}
-    {fed : Fed} (empty : gathered before ≡ []) (f : HasFed (session_at old cs) bytes old_buffer new.link told buffer fed) (count : new.taken ≡ old.taken + fed.taken) where
-  -- its answers were written
-  pub taken_all : {T E : Type 0} {mid after : Lines K} (x : T) → Puts written before (take fed.answered buffer) mid → taken written after ≡ then_bytes (taken written mid) (gathered mid) →
-      HasTaken {E = E} written old cs bytes new told before after (Ok x)
-  taken_all x put e = record {
+module _ {K : Type 0} {sink : SinkOf K} {old new : Session} {cs : List Card} {bytes old_buffer buffer : List ℕ} {told : Option (List Card)} {before : Lines K}
+    {fed : Fed} (f : HasFed (session_at old cs) bytes old_buffer new.link told buffer fed) (count : new.taken ≡ old.taken + fed.taken) where
+  -- its answers were put
+  pub taken_all : {T E : Type 0} {mid after : Lines K} (x : T) → Puts sink before (take fed.answered buffer) mid → Puts sink mid [] after →
+      HasTaken {E = E} sink old cs bytes new told before after (Ok x)
+  taken_all x first last = record {
     link = f.link;
     leaves = f.board;
     count = count ∙ ap (λ k. old.taken + k) f.taken;
-    wrote = all_written empty (puts_same (front_is (session_at old cs) bytes old_buffer buffer new.link told fed f) put) e;
-    front = tt;
+    put = puts_end (puts_same (front_is (session_at old cs) bytes old_buffer buffer new.link told fed f) first) last;
   }
 
   -- or a front of them
-  torn : {T E : Type 0} {after : Lines K} (r : Result T E) → IsErr r → PutsFront written before (take fed.answered buffer) after → HasTaken written old cs bytes new told before after r
-  torn (Ok x) is front = absurd cc
-  torn (Err e) is front = record {
+  pub taken_unput : {T E : Type 0} {after : Lines K} (r : Result T E) → IsErr r → PutsBroken sink before (take fed.answered buffer) after →
+      HasTaken sink old cs bytes new told before after r
+  taken_unput r is front = record {
     link = f.link;
     leaves = f.board;
     count = count ∙ ap (λ k. old.taken + k) f.taken;
-    wrote = tt;
-    front = front_written empty (front_same (front_is (session_at old cs) bytes old_buffer buffer new.link told fed f) front);
+    put = put_failed r is (front_same (front_is (session_at old cs) bytes old_buffer buffer new.link told fed f) front);
   }
 
-  pub taken_unput : {T E : Type 0} {after : Lines K} (r : Result T E) → IsErr r → PutsFront written before (take fed.answered buffer) after →
-      HasTaken written old cs bytes new told before after r
-  taken_unput r is front = torn r is front
-
-  pub taken_unfinished : {T E : Type 0} {mid after : Lines K} (r : Result T E) → IsErr r → Puts written before (take fed.answered buffer) mid → PutsFront written mid [] after →
-      HasTaken written old cs bytes new told before after r
-  taken_unfinished r is put front = torn r is (finish_front put front)
+  pub taken_unfinished : {T E : Type 0} {mid after : Lines K} (r : Result T E) → IsErr r → Puts sink before (take fed.answered buffer) mid → PutsBroken sink mid [] after →
+      HasTaken sink old cs bytes new told before after r
+  taken_unfinished r is put front = taken_unput r is (front_end put front)
 
 -- the devices are still fitted
 pub still_fitted : (o p : Option (List Card)) → IsSome o → ((cs : List Card) → o ≡ Some cs → (x : List Card) × (p ≡ Some x)) → IsSome p
@@ -109,35 +104,36 @@ full_in most xs ys e = ap (λ k. take k (xs ++ ys)) (sym e) ∙ take-append_seam
 
 -- ---- a session up to a place of its file
 
-pub record IsServing {F : Type 0} (board : List Card) (told : Option F) (first left : List ℕ) (before now : Option (List ℕ)) (session : Session) (cards : Option (List Card)) : Type 0 where
+pub record IsServing {F K : Type 0} (board : List Card) (told : Option F) (first left : List ℕ) (sink : SinkOf K) (old now : Lines K) (session : Session)
+    (cards : Option (List Card)) : Type 0 where
   pub so_far : List ℕ
   pub read : IfSome told (λ files. first ≡ so_far ++ left)
   pub within : length so_far ≤ most_bytes
   pub link : session.link ≡ (link_run (link_to board) so_far).end.link
   pub leaves : cards ≡ Some (link_run (link_to board) so_far).end.board
   pub count : session.taken ≡ (link_run (link_to board) so_far).taken
-  pub wrote : now ≡ then_bytes before (first_answers board so_far)
+  pub puts : Puts sink old (first_answers board so_far) now
 
-pub begins : {F : Type 0} (board : List Card) (told : Option F) (left : List ℕ) (before : Option (List ℕ)) (cards : Option (List Card)) → cards ≡ Some board →
-    IsServing board told left left before before (record { link = new_link; taken = 0 }) cards
-begins board told left before cards e = record {
+pub begins : {F K : Type 0} (board : List Card) (told : Option F) (left : List ℕ) (sink : SinkOf K) (lines : Lines K) (cards : Option (List Card)) → IsWhole lines →
+    cards ≡ Some board → IsServing board told left left sink lines lines (record { link = new_link; taken = 0 }) cards
+begins board told left sink lines cards whole e = record {
   so_far = [];
   read = same told;
   within = omega arith;
   link = refl;
   leaves = e;
   count = refl;
-  wrote = sym (then_bytes-nothing before);
+  puts = puts_nothing sink lines whole;
 }
   where
     same : {F : Type 0} (told : Option F) → IfSome told (λ files. left ≡ [] ++ left)
     same None = tt
     same (Some files) = refl
 
-module _ {F : Type 0} {board : List Card} {told : Option F} {first : List ℕ} {before now : Option (List ℕ)} {session : Session} {cards : Option (List Card)} where
+module _ {F K : Type 0} {board : List Card} {told : Option F} {first : List ℕ} {sink : SinkOf K} {old now : Lines K} {session : Session} {cards : Option (List Card)} where
   -- n bytes were read, of which some are a front
   pub after_read : {left : List ℕ} (rest into : List ℕ) (n : ℕ) (front more : List ℕ) → IfSome told (λ files. Gives left rest n into) → take n into ≡ front ++ more →
-      IsServing board told first left before now session cards → IsServing board told first (front ++ (more ++ rest)) before now session cards
+      IsServing board told first left sink old now session cards → IsServing board told first (front ++ (more ++ rest)) sink old now session cards
   after_read {left = left} rest into n front more gives parts s = record {
     so_far = s.so_far;
     read = by told gives s.read;
@@ -145,7 +141,7 @@ module _ {F : Type 0} {board : List Card} {told : Option F} {first : List ℕ} {
     link = s.link;
     leaves = s.leaves;
     count = s.count;
-    wrote = s.wrote;
+    puts = s.puts;
   }
     where
       by : {F : Type 0} (told : Option F) → IfSome told (λ files. Gives left rest n into) → IfSome told (λ files. first ≡ s.so_far ++ left) →
@@ -155,12 +151,12 @@ module _ {F : Type 0} {board : List Card} {told : Option F} {first : List ℕ} {
           e ∙ ap (λ xs. s.so_far ++ xs) (g.next ∙ ap (λ xs. xs ++ rest) parts ∙ append_assoc front more rest)
 
   -- the same of what is left
-  pub with_left : {left other : List ℕ} → left ≡ other → IsServing board told first left before now session cards → IsServing board told first other before now session cards
-  with_left e s = subst (λ (xs : List ℕ). IsServing board told first xs before now session cards) e s
+  pub with_left : {left other : List ℕ} → left ≡ other → IsServing board told first left sink old now session cards → IsServing board told first other sink old now session cards
+  with_left e s = subst (λ (xs : List ℕ). IsServing board told first xs sink old now session cards) e s
 
   -- the file is at its end
   pub after_all : {left : List ℕ} (rest into : List ℕ) (n : ℕ) → n ≡ 0 → IfSome told (λ files. Gives left rest n into) →
-      IsServing board told first left before now session cards → IsServing board told first [] before now session cards
+      IsServing board told first left sink old now session cards → IsServing board told first [] sink old now session cards
   after_all {left = left} rest into n none gives s = record {
     so_far = s.so_far;
     read = by told gives s.read;
@@ -168,7 +164,7 @@ module _ {F : Type 0} {board : List Card} {told : Option F} {first : List ℕ} {
     link = s.link;
     leaves = s.leaves;
     count = s.count;
-    wrote = s.wrote;
+    puts = s.puts;
   }
     where
       by : {F : Type 0} (told : Option F) → IfSome told (λ files. Gives left rest n into) → IfSome told (λ files. first ≡ s.so_far ++ left) →
@@ -177,24 +173,24 @@ module _ {F : Type 0} {board : List Card} {told : Option F} {first : List ℕ} {
       by (Some files) g e = e ∙ ap (λ xs. s.so_far ++ xs) (g.only_end none)
 
   -- the link and the board are those of the run
-  here : {left : List ℕ} (s : IsServing board told first left before now session cards) →
+  here : {left : List ℕ} (s : IsServing board told first left sink old now session cards) →
       session_at session (link_run (link_to board) s.so_far).end.board ≡ (link_run (link_to board) s.so_far).end
   here s = ap (λ (l : Link). record { link = l; board = (link_run (link_to board) s.so_far).end.board }) s.link
 
   -- as many bytes were read as the count says, while the session is open
-  pub open_count : {left : List ℕ} (s : IsServing board told first left before now session cards) → is_open session.link.state ≡ true → session.taken ≡ length s.so_far
+  pub open_count : {left : List ℕ} (s : IsServing board told first left sink old now session cards) → is_open session.link.state ≡ true → session.taken ≡ length s.so_far
   open_count s open_now = s.count ∙ all_taken (link_to board) s.so_far refl (ap (λ (l : Link). is_open l.state) (sym s.link) ∙ open_now)
 
   -- ---- a piece was fed
 
-  module _ {K T E : Type 0} {written : K → Option (List ℕ)} {lines new_lines : Lines K} {front more : List ℕ} {new : Session} {new_cards : Option (List Card)} where
-    pub after_feed : (r : Result T E) (x : T) → r ≡ Ok x → is_open session.link.state ≡ true → session.taken + length front ≤ most_bytes → now ≡ taken written lines →
-        ((cs : List Card) → cards ≡ Some cs → HasTaken written session cs front new new_cards lines new_lines r) →
-        IsServing board told first (front ++ more) before now session cards → IsServing board told first more before (taken written new_lines) new new_cards
-    after_feed r x ok open_now few at_now f s =
+  module _ {T E : Type 0} {new_lines : Lines K} {front more : List ℕ} {new : Session} {new_cards : Option (List Card)} where
+    pub after_feed : (r : Result T E) (x : T) → r ≡ Ok x → is_open session.link.state ≡ true → session.taken + length front ≤ most_bytes →
+        ((cs : List Card) → cards ≡ Some cs → HasTaken sink session cs front new new_cards now new_lines r) →
+        IsServing board told first (front ++ more) sink old now session cards → IsServing board told first more sink old new_lines new new_cards
+    after_feed r x ok open_now few f s =
         let at = (link_run (link_to board) s.so_far).end in
-        let t : HasTaken {E = E} written session at.board front new new_cards lines new_lines (Ok x) =
-        subst (λ (r : Result T E). HasTaken written session at.board front new new_cards lines new_lines r) ok (f at.board s.leaves) in
+        let t : HasTaken {E = E} sink session at.board front new new_cards now new_lines (Ok x) =
+        subst (λ (r : Result T E). HasTaken sink session at.board front new new_cards now new_lines r) ok (f at.board s.leaves) in
         record {
           so_far = s.so_far ++ front;
           read = by told s.read;
@@ -203,10 +199,9 @@ module _ {F : Type 0} {board : List Card} {told : Option F} {first : List ℕ} {
           leaves = t.leaves ∙ ap (λ a. Some (link_run a front).end.board) (here s) ∙ ap (λ (a : LinkAt). Some a.board) (sym (end_joined s.so_far front (link_to board)));
           count = t.count ∙ ap (λ k. k + (link_run (session_at session at.board) front).taken) s.count
               ∙ ap (λ a. (link_run (link_to board) s.so_far).taken + (link_run a front).taken) (here s) ∙ sym (taken_joined s.so_far front (link_to board));
-          wrote = t.wrote ∙ ap (λ o. then_bytes o (link_run (session_at session at.board) front).answers) (sym at_now ∙ s.wrote)
-              ∙ ap (λ a. then_bytes (then_bytes before (first_answers board s.so_far)) (link_run a front).answers) (here s)
-              ∙ then_bytes-twice before (first_answers board s.so_far) (link_run at front).answers
-              ∙ ap (then_bytes before) (sym (answers_joined s.so_far front (link_to board)));
+          puts = puts_same
+              (ap (λ a. first_answers board s.so_far ++ (link_run a front).answers) (here s) ∙ sym (answers_joined s.so_far front (link_to board)))
+              (put_then s.puts t.put);
         }
       where
         by : {F : Type 0} (told : Option F) → IfSome told (λ files. first ≡ s.so_far ++ (front ++ more)) → IfSome told (λ files. first ≡ (s.so_far ++ front) ++ more)
@@ -214,8 +209,8 @@ module _ {F : Type 0} {board : List Card} {told : Option F} {first : List ℕ} {
         by (Some files) e = e ∙ sym (append_assoc s.so_far front more)
 
 -- an open session counts what it was fed
-pub taken_more : {K T E : Type 0} {written : K → Option (List ℕ)} {old new : Session} {cs : List Card} {front : List ℕ} {told : Option (List Card)} {before after : Lines K}
-    {r : Result T E} → HasTaken written old cs front new told before after r → is_open old.link.state ≡ true → is_open new.link.state ≡ true → new.taken ≡ old.taken + length front
+pub taken_more : {K T E : Type 0} {sink : SinkOf K} {old new : Session} {cs : List Card} {front : List ℕ} {told : Option (List Card)} {before after : Lines K}
+    {r : Result T E} → HasTaken sink old cs front new told before after r → is_open old.link.state ≡ true → is_open new.link.state ≡ true → new.taken ≡ old.taken + length front
 taken_more {old = old} {cs = cs} {front = front} h first last =
     h.count ∙ ap (λ k. old.taken + k) (all_taken (session_at old cs) front first (ap (λ (l : Link). is_open l.state) (sym h.link) ∙ last))
 
@@ -259,8 +254,12 @@ module _ (taken most left room : ℕ) (piece : List ℕ) (is : room ≡ min left
 
 -- ---- how it stops
 
-module _ {F : Type 0} {board : List Card} {told : Option F} {first left : List ℕ} {before now : Option (List ℕ)} {session : Session} {cards : Option (List Card)}
-    (s : IsServing board told first left before now session cards) where
+-- what a session comes to, of which the answers are put
+abbrev pub Serves : {F K : Type 0} → Option F → List ℕ → List Card → SinkOf K → Lines K → Lines K → Option (List Card) → Result LinkStatus NoAnswer → Type 0
+Serves told first board sink old new cards r = HasServed told first board (λ text. PutsOut sink old text new) (λ text. PutsFront sink old text new) cards r
+
+module _ {F K : Type 0} {board : List Card} {told : Option F} {first left : List ℕ} {sink : SinkOf K} {old now : Lines K} {session : Session} {cards : Option (List Card)}
+    (s : IsServing board told first left sink old now session cards) (empty : gathered now ≡ []) where
   -- the session of the whole file goes on from here
   abbrev bytes : List ℕ
   bytes = s.so_far ++ left
@@ -272,13 +271,16 @@ module _ {F : Type 0} {board : List Card} {told : Option F} {first left : List �
   cut = fronts most_bytes s.so_far left s.within
 
   -- a front was read, and no more can be
-  pub stop_read : {after : Option (List ℕ)} {told_cards : Option (List Card)} → after ≡ now → HasServed told first board before after told_cards (Err Read)
-  stop_read same = record {
+  pub stop_read : {told_cards : Option (List Card)} → Serves told first board sink old now told_cards (Err Read)
+  stop_read = record {
     bytes = bytes;
     read = s.read;
     does = record {
       count = length s.so_far;
-      wrote = same ∙ s.wrote ∙ ap (λ xs. then_bytes before (first_answers board xs)) (sym (ap (take (length s.so_far)) cut ∙ take-append_seam s.so_far rest));
+      wrote = record {
+        puts = puts_same (ap (first_answers board) (sym (ap (take (length s.so_far)) cut ∙ take-append_seam s.so_far rest))) s.puts;
+        empty = empty;
+      };
     };
   }
 
@@ -298,23 +300,23 @@ module _ {F : Type 0} {board : List Card} {told : Option F} {first left : List �
       add_none : (n : ℕ) → n + 0 ≡ n
       add_none n = omega arith
 
-  closed_served : (status : LinkStatus) → is_open session.link.state ≡ false → EndsWith bytes status → HasServed told first board before now cards (Ok status)
+  closed_served : (status : LinkStatus) → is_open session.link.state ≡ false → EndsWith bytes status → Serves told first board sink old now cards (Ok status)
   closed_served status closed ends = record {
     bytes = bytes;
     read = s.read;
     does = record {
-      wrote = s.wrote ∙ ap (λ (r : LinkRun). then_bytes before r.answers) (sym (over closed));
+      wrote = record { puts = puts_same (ap (λ (r : LinkRun). r.answers) (sym (over closed))) s.puts; empty = empty };
       leaves = s.leaves ∙ ap (λ (r : LinkRun). Some r.end.board) (sym (over closed));
       ends = ends;
     };
   }
 
-  stop_quit : session.link.state ≡ states.Quit → HasServed told first board before now cards (Ok Done)
+  stop_quit : session.link.state ≡ states.Quit → Serves told first board sink old now cards (Ok Done)
   stop_quit e =
       let closed : is_open session.link.state ≡ false = ap is_open e in
       closed_served Done closed (quit_end board bytes (ap (λ (r : LinkRun). r.end.link.state) (over closed) ∙ ap (λ (l : Link). l.state) (sym s.link) ∙ e))
 
-  stop_bad : session.link.state ≡ states.Bad → HasServed told first board before now cards (Ok (BadByte session.taken))
+  stop_bad : session.link.state ≡ states.Bad → Serves told first board sink old now cards (Ok (BadByte session.taken))
   stop_bad e =
       let closed : is_open session.link.state ≡ false = ap is_open e in
       let at_taken : (link_run (link_to board) (session_bytes bytes)).taken ≡ session.taken = ap (λ (r : LinkRun). r.taken) (over closed) ∙ sym s.count in
@@ -324,18 +326,18 @@ module _ {F : Type 0} {board : List Card} {told : Option F} {first left : List �
 
   -- what was read is the session, which is open
   open_served : (all : List ℕ) (status : LinkStatus) → IfSome told (λ files. first ≡ all) → session_bytes all ≡ s.so_far → is_open session.link.state ≡ true →
-      ((list_all_go_on : is_open (link_run (link_to board) (session_bytes all)).end.link.state ≡ true) → EndsWith all status) → HasServed told first board before now cards (Ok status)
+      ((list_all_go_on : is_open (link_run (link_to board) (session_bytes all)).end.link.state ≡ true) → EndsWith all status) → Serves told first board sink old now cards (Ok status)
   open_served all status read same open_now ends = record {
     bytes = all;
     read = read;
     does = record {
-      wrote = s.wrote ∙ ap (λ xs. then_bytes before (first_answers board xs)) (sym same);
+      wrote = record { puts = puts_same (ap (first_answers board) (sym same)) s.puts; empty = empty };
       leaves = s.leaves ∙ ap (λ xs. Some (link_run (link_to board) xs).end.board) (sym same);
       ends = ends (ap (λ xs. is_open (link_run (link_to board) xs).end.link.state) same ∙ ap (λ (l : Link). is_open l.state) (sym s.link) ∙ open_now);
     };
   }
 
-  stop_long : is_open session.link.state ≡ true → session.taken ≡ most_bytes → 0 < length left → HasServed told first board before now cards (Ok TooLong)
+  stop_long : is_open session.link.state ≡ true → session.taken ≡ most_bytes → 0 < length left → Serves told first board sink old now cards (Ok TooLong)
   stop_long open_now full some =
       let n : session.taken ≡ length s.so_far = open_count s open_now in
       open_served bytes TooLong s.read (full_in most_bytes s.so_far left (sym n ∙ full)) open_now
@@ -343,71 +345,94 @@ module _ {F : Type 0} {board : List Card} {told : Option F} {first left : List �
 
   -- by the status that was told
   pub stops : (more : Bool) (status : LinkStatus) → (more ≡ true → is_open session.link.state ≡ true → (session.taken ≡ most_bytes) × (0 < length left)) →
-      status_after session.link.state session.taken more ≡ Some status → HasServed told first board before now cards (Ok status)
+      status_after session.link.state session.taken more ≡ Some status → Serves told first board sink old now cards (Ok status)
   stops more status long e = by session.link.state refl
     where
       is : (state : LinkState) → session.link.state ≡ state → status_after state session.taken more ≡ Some status
       is state same = ap (λ t. status_after t session.taken more) (sym same) ∙ e
 
-      by_more : (m : Bool) → more ≡ m → session.link.state ≡ states.Open → cond m (Some TooLong) None ≡ Some status → HasServed told first board before now cards (Ok status)
+      by_more : (m : Bool) → more ≡ m → session.link.state ≡ states.Open → cond m (Some TooLong) None ≡ Some status → Serves told first board sink old now cards (Ok status)
       by_more true m same f =
           let fact = long m (ap is_open same) in
-          subst (λ (t : LinkStatus). HasServed told first board before now cards (Ok t)) (same_Some TooLong status f) (stop_long (ap is_open same) fact.0 fact.1)
+          subst (λ (t : LinkStatus). Serves told first board sink old now cards (Ok t)) (same_Some TooLong status f) (stop_long (ap is_open same) fact.0 fact.1)
       by_more false m same f = absurd (none-some status f)
 
-      by : (state : LinkState) → session.link.state ≡ state → HasServed told first board before now cards (Ok status)
-      by states.Quit same = subst (λ (t : LinkStatus). HasServed told first board before now cards (Ok t)) (same_Some Done status (is states.Quit same)) (stop_quit same)
-      by states.Bad same = subst (λ (t : LinkStatus). HasServed told first board before now cards (Ok t)) (same_Some (BadByte session.taken) status (is states.Bad same)) (stop_bad same)
+      by : (state : LinkState) → session.link.state ≡ state → Serves told first board sink old now cards (Ok status)
+      by states.Quit same = subst (λ (t : LinkStatus). Serves told first board sink old now cards (Ok t)) (same_Some Done status (is states.Quit same)) (stop_quit same)
+      by states.Bad same = subst (λ (t : LinkStatus). Serves told first board sink old now cards (Ok t)) (same_Some (BadByte session.taken) status (is states.Bad same)) (stop_bad same)
       by states.Open same = by_more more refl same (is states.Open same)
 
 -- the file was read to its end
-pub stop_end : {F : Type 0} {board : List Card} {told : Option F} {first : List ℕ} {before now : Option (List ℕ)} {session : Session} {cards : Option (List Card)} →
-    IsServing board told first [] before now session cards → is_open session.link.state ≡ true → HasServed told first board before now cards (Ok Done)
-stop_end {board = board} {told = told} {first = first} s open_now =
+pub stop_end : {F K : Type 0} {board : List Card} {told : Option F} {first : List ℕ} {sink : SinkOf K} {old now : Lines K} {session : Session} {cards : Option (List Card)} →
+    IsServing board told first [] sink old now session cards → gathered now ≡ [] → is_open session.link.state ≡ true → Serves told first board sink old now cards (Ok Done)
+stop_end {board = board} {told = told} {first = first} s empty open_now =
     let same : session_bytes s.so_far ≡ s.so_far = all_in most_bytes s.so_far s.within in
-    open_served s s.so_far Done (by told s.read) same open_now (λ e. at_end s.within (open_end board s.so_far e))
+    open_served s empty s.so_far Done (by told s.read) same open_now (λ e. at_end s.within (open_end board s.so_far e))
   where
     by : {F : Type 0} (told : Option F) → IfSome told (λ files. first ≡ s.so_far ++ []) → IfSome told (λ files. first ≡ s.so_far)
     by None e = tt
     by (Some files) e = e ∙ append-nil s.so_far
 
 -- a piece was fed, and its answers could not be written
-pub stop_write : {F K T E : Type 0} {board : List Card} {told : Option F} {first front : List ℕ} {before now : Option (List ℕ)} {session new : Session}
-    {cards new_cards told_cards : Option (List Card)} {written : K → Option (List ℕ)} {lines new_lines : Lines K} (more : List ℕ) (r : Result T E) (x : E) → r ≡ Err x →
-    is_open session.link.state ≡ true → session.taken + length front ≤ most_bytes → now ≡ taken written lines →
-    ((cs : List Card) → cards ≡ Some cs → HasTaken written session cs front new new_cards lines new_lines r) →
-    IsServing board told first (front ++ more) before now session cards → HasServed told first board before (taken written new_lines) told_cards (Err Write)
-stop_write {T = T} {E = E} {board = board} {front = front} {before = before} {now = now} {session = session} {new = new} {new_cards = new_cards} {written = written}
-    {lines = lines} {new_lines = new_lines} more r x err open_now few at_now f s =
+pub stop_write : {F K T E : Type 0} {board : List Card} {told : Option F} {first front : List ℕ} {sink : SinkOf K} {old now new_lines : Lines K} {session new : Session}
+    {cards new_cards told_cards : Option (List Card)} (more : List ℕ) (r : Result T E) (x : E) → r ≡ Err x →
+    is_open session.link.state ≡ true → session.taken + length front ≤ most_bytes →
+    ((cs : List Card) → cards ≡ Some cs → HasTaken sink session cs front new new_cards now new_lines r) →
+    IsServing board told first (front ++ more) sink old now session cards → Serves told first board sink old new_lines told_cards (Err Write)
+stop_write {T = T} {E = E} {board = board} {front = front} {sink = sink} {now = now} {new_lines = new_lines} {session = session} {new = new} {new_cards = new_cards}
+    more r x err open_now few f s =
     let at = (link_run (link_to board) s.so_far).end in
-    let t : HasTaken {T = T} written session at.board front new new_cards lines new_lines (Err x) =
-    subst (λ (r : Result T E). HasTaken written session at.board front new new_cards lines new_lines r) err (f at.board s.leaves) in
-    let front_is : (link_run (session_at session at.board) front).answers ≡ (link_run at front).answers = ap (λ a. (link_run a front).answers) (here s) in
-    let part : MovesFront now (link_run at front).answers (taken written new_lines) =
-    subst (λ (xs : List ℕ). MovesFront now xs (taken written new_lines)) front_is
-    (subst (λ (o : Option (List ℕ)). MovesFront o (link_run (session_at session at.board) front).answers (taken written new_lines)) (sym at_now) t.front) in
+    let t : HasTaken {T = T} sink session at.board front new new_cards now new_lines (Err x) =
+    subst (λ (r : Result T E). HasTaken sink session at.board front new new_cards now new_lines r) err (f at.board s.leaves) in
     let all : List ℕ = s.so_far ++ front in
     let few_all : length all ≤ most_bytes = omega (arith, few, open_count s open_now, length-append s.so_far front) in
     let cut_all : session_bytes (all ++ more) ≡ all ++ take (most_bytes - length all) more = fronts most_bytes all more few_all in
-    let joined : MovesFront before (first_answers board s.so_far ++ (link_run at front).answers) (taken written new_lines) =
-    moves_then_front (moves_with (link_run at front).answers (moves_of_all s.wrote)) part in
-    let last : MovesFront before (first_answers board all) (taken written new_lines) =
-    subst (λ (xs : List ℕ). MovesFront before xs (taken written new_lines)) (sym (answers_joined s.so_far front (link_to board))) joined in
+    let others : List ℕ = (link_run (link_run (link_to board) all).end (take (most_bytes - length all) more)).answers in
     record {
       bytes = s.so_far ++ (front ++ more);
       read = s.read;
-      does = subst (λ (xs : List ℕ). MovesFront before xs (taken written new_lines))
-          (sym (ap (first_answers board) (ap session_bytes (sym (append_assoc s.so_far front more)) ∙ cut_all) ∙ answers_joined all (take (most_bytes - length all) more) (link_to board)))
-          (moves_front_with (link_run (link_run (link_to board) all).end (take (most_bytes - length all) more)).answers last);
+      does = (front_same
+          (ap (λ a. (first_answers board s.so_far ++ (link_run a front).answers) ++ others) (here s)
+          ∙ ap (λ xs. xs ++ others) (sym (answers_joined s.so_far front (link_to board)))
+          ∙ sym (ap (first_answers board) (ap session_bytes (sym (append_assoc s.so_far front more)) ∙ cut_all)
+          ∙ answers_joined all (take (most_bytes - length all) more) (link_to board)))
+          (front_with others (put_then_front s.puts t.put))).put;
     }
 
 -- a write fault at the exit of a `?`
-pub failed_as : {F : Type 0} {told : Option F} {left : List ℕ} {board : List Card} {before after : Option (List ℕ)} {now : Option (List Card)} (r : Result LinkStatus NoAnswer) →
-    IsErrAnd r (λ e. e ≡ Write) → HasServed told left board before after now (Err Write) → HasServed told left board before after now r
+pub failed_as : {F : Type 0} {told : Option F} {left : List ℕ} {board : List Card} {written front : List ℕ → Type 0} {now : Option (List Card)}
+    (r : Result LinkStatus NoAnswer) → IsErrAnd r (λ e. e ≡ Write) → HasServed told left board written front now (Err Write) → HasServed told left board written front now r
 failed_as (Ok status) is h = absurd is
 failed_as (Err e) is h = rw is h
 
--- the lines are gone, and what they wrote is what their sink has taken
-pub from_lines : {F : Type 0} {told : Option F} {left : List ℕ} {board : List Card} {before after first last : Option (List ℕ)} {now : Option (List Card)}
-    {r : Result LinkStatus NoAnswer} → before ≡ first → after ≡ last → HasServed told left board first last now r → HasServed told left board before after now r
-from_lines e f h = rw (e, f) h
+-- The lines are gone, and what they wrote is what their sink has taken.
+module _ {F K : Type 0} {told : Option F} {left : List ℕ} {board : List Card} {sink : SinkOf K} {old new : Lines K} {now : Option (List Card)} where
+  pub from_lines : {before after : Option (List ℕ)} (r : Result LinkStatus NoAnswer) → gathered old ≡ [] → before ≡ taken sink old → after ≡ taken sink new →
+      Serves told left board sink old new now r → HasServed told left board (λ text. after ≡ then_bytes before text) (λ text. MovesFront before text after) now r
+  from_lines {before = before} {after = after} r empty e f h = record { bytes = h.bytes; read = h.read; does = by r h.does }
+    where
+      by : (r : Result LinkStatus NoAnswer) → IsSession board h.bytes (λ text. PutsOut sink old text new) (λ text. PutsFront sink old text new) now r →
+          IsSession board h.bytes (λ text. after ≡ then_bytes before text) (λ text. MovesFront before text after) now r
+      by (Ok status) d = record { wrote = rw (e, f) (all_written empty d.wrote.puts d.wrote.empty); leaves = d.leaves; ends = d.ends }
+      by (Err Read) d = record { count = d.count; wrote = rw (e, f) (all_written empty d.wrote.puts d.wrote.empty) }
+      by (Err Write) d = rw (e, f) (front_written empty d)
+      by (Err Memory) d = absurd d
+
+  -- they stood over that sink to the end
+  pub served_over : (r : Result LinkStatus NoAnswer) → Serves told left board sink old new now r → IsOverSame old new
+  served_over (Ok status) h = h.does.wrote.puts.same_sink
+  served_over (Err Read) h = h.does.wrote.puts.same_sink
+  served_over (Err Write) h = h.does.same_sink
+  served_over (Err Memory) h = absurd h.does
+
+  -- what its count has kept
+  pub served_count : (before after : K) (r : Result LinkStatus NoAnswer) → before ≡ sink_of old → after ≡ sink_of new → Serves told left board sink old new now r →
+      KeepsCount sink before after r
+  served_count before after r e f h = rw (e, f) (by r h.does)
+    where
+      by : (r : Result LinkStatus NoAnswer) → IsSession board h.bytes (λ text. PutsOut sink old text new) (λ text. PutsFront sink old text new) now r →
+          KeepsCount sink (sink_of old) (sink_of new) r
+      by (Ok status) d = record { later = d.wrote.puts.kept; write = λ is. absurd cc }
+      by (Err Read) d = record { later = d.wrote.puts.kept; write = λ is. absurd cc }
+      by (Err Write) d = record { later = d.kept; write = λ is. d.rose }
+      by (Err Memory) d = absurd d

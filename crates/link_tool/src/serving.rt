@@ -1,12 +1,12 @@
 //! The session of a file.
 ghost use Rattle.std.specs.Prelude.{◌≡◌, ℕ, [], List, map, IsTrue, IsSome, IsErrOf, Some};
 ghost use Rattle.tool_io.specs.Causes.{HasRisenAt, NoneFalls};
-ghost use Rattle.tool_io.specs.Lines.{gathered, taken, IsWhole};
-ghost use Rattle.tool_frame.specs.Answers.{KeepsOutput};
+ghost use Rattle.tool_io.specs.Bytes.{then_bytes, MovesFront};
+ghost use Rattle.tool_io.specs.Lines.{gathered, IsWhole, PutsFront};
 ghost use Rattle.tool_frame.specs.Frame.{KeepsCount};
 ghost use Rattle.dev_card.specs.Card.{Card};
 ghost use Rattle.chain_sim.specs.Places.{cards_at, is_chain, AreApart};
-ghost use Rattle.link_tool.specs.Pieces.{HasServed};
+ghost use Rattle.link_tool.specs.Pieces.{PutsOut, HasServed};
 
 use crate::LinkStatus;
 use crate::session::{PIECE, Session};
@@ -28,14 +28,14 @@ fn serve<S: Shelf, D: Device, K: Sink>(
     requires whole { IsWhole lines.old }
     requires empty { gathered lines.old ≡ [] }
     ensures served { (cs : List Card) → cards_at (map D.fitted rack.old.items) places.now ≡ Some cs →
-        HasServed (S.told shelf.old) (S.left shelf.old) cs (taken K.written lines.old) (taken K.written lines.new)
+        HasServed (S.told shelf.old) (S.left shelf.old) cs
+        (λ text. PutsOut K.Sink lines.old text lines.new) (λ text. PutsFront K.Sink lines.old text lines.new)
         (cards_at (map D.fitted rack.new.items) places.now) result }
     ensures kinds { map D.kind_of rack.new.items ≡ map D.kind_of rack.old.items }
     ensures keeps { S.told shelf.new ≡ S.told shelf.old }
     ensures later { NoneFalls S.faults S.is_last shelf.old shelf.new }
     ensures read { (name : List ℕ) → S.reads shelf.old name → IsErrOf result NoAnswer.Read →
         HasRisenAt S.faults S.is_last name shelf.old shelf.new }
-    ensures output { KeepsOutput K.faults K.is_last lines.old lines.new result }
 {
     let mut session = Session::new();
     let mut bytes = [0u8; PIECE];
@@ -65,14 +65,16 @@ pub(crate) fn serve_to<S: Shelf, K: Sink>(
     requires picked { (name : List ℕ) × S.reads shelf.old name }
     requires chain { IsTrue (is_chain (map fitted rack.old.items) places.now) }
     ensures served { (cs : List Card) → cards_at (map fitted rack.old.items) places.now ≡ Some cs →
-        HasServed (S.told shelf.old) (S.left shelf.old) cs (K.written out.old) (K.written out.new)
+        HasServed (S.told shelf.old) (S.left shelf.old) cs
+        (λ text. K.written out.new ≡ then_bytes (K.written out.old) text)
+        (λ text. MovesFront (K.written out.old) text (K.written out.new))
         (cards_at (map fitted rack.new.items) places.now) result }
     ensures kinds { map kind_of rack.new.items ≡ map kind_of rack.old.items }
     ensures keeps { S.told shelf.new ≡ S.told shelf.old }
     ensures later { NoneFalls S.faults S.is_last shelf.old shelf.new }
     ensures read { (name : List ℕ) → S.reads shelf.old name → IsErrOf result NoAnswer.Read →
         HasRisenAt S.faults S.is_last name shelf.old shelf.new }
-    ensures output { KeepsCount K.faults K.is_last out.old out.new result }
+    ensures output { KeepsCount K.Sink out.old out.new result }
 {
     let mut lines = Lines::new(out);
     serve(shelf, rack, places, &mut lines)

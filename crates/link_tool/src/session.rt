@@ -1,6 +1,6 @@
 //! A session, piece by piece.
 ghost use Rattle.std.specs.Prelude.{◌≡◌, ◌≤◌, ◌+◌, ◌-◌, [], List, map, length, Some, IsSome, OnOk};
-ghost use Rattle.tool_io.specs.Lines.{gathered, IsWhole, KeepsLines};
+ghost use Rattle.tool_io.specs.Lines.{gathered, IsWhole};
 ghost use Rattle.dev_card.specs.Card.{Card};
 ghost use Rattle.chain_sim.specs.Places.{cards_at, AreApart};
 ghost use Rattle.link_server.specs.Runs.{new_link};
@@ -76,15 +76,14 @@ impl Session {
         requires whole { IsWhole lines.old }
         requires empty { gathered lines.old ≡ [] }
 
-        // Link, board, count and what is written are those of the run over the bytes.
+        // Link, board, count and what is put are those of the run over the bytes.
         ensures taken { (cs : List Card) → cards_at (map D.fitted rack.old.items) places.now ≡ Some cs →
-            HasTaken K.written self.old cs bytes.now self.new (cards_at (map D.fitted rack.new.items) places.now)
+            HasTaken K.Sink self.old cs bytes.now self.new (cards_at (map D.fitted rack.new.items) places.now)
             lines.old lines.new result }
         ensures fitted { IsSome (cards_at (map D.fitted rack.new.items) places.now) }
         ensures kinds { map D.kind_of rack.new.items ≡ map D.kind_of rack.old.items }
         ensures few { self.new.taken ≤ self.old.taken + length bytes.now }
         ensures empty { OnOk result (gathered lines.new ≡ []) }
-        ensures kept { KeepsLines K.faults K.is_last lines.old lines.new result }
     {
         let mut answers = [0u8; PIECE];
         let fed = self.link.feed_devices(rack, places, bytes, &mut answers);

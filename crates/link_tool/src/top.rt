@@ -38,8 +38,8 @@ fn answer_file<S: Shelf, K: Sink>(
     ensures answers { OfFile (S.told shelf.old) (Some path.now) (λ held. Answers kind_of fitted
         (FileAnswer devices.now held) (FileDue devices.now held) (HeldLeft devices.now held)
         (K.written out.old) (K.written out.new) rack.old.items rack.new.items result) }
-    ensures shelf { KeepsShelf S.told S.faults S.is_last (λ read. read ≡ path.now) shelf.old shelf.new result }
-    ensures output { KeepsCount K.faults K.is_last out.old out.new result }
+    ensures shelf { KeepsShelf S.Shelf (λ read. read ≡ path.now) shelf.old shelf.new result }
+    ensures output { KeepsCount K.Sink out.old out.new result }
 {
     let places = fit_board(alloc, rack, devices)?;
     match shelf.pick(path) {
@@ -60,9 +60,9 @@ fn answer_request<S: Shelf, K: Sink>(
     ensures answers { OfContents (S.told shelf.old) (files_named named.entry) (λ contents. Answers kind_of fitted
         (RequestAnswer contents) (RequestDue contents) (RequestHoldsLeft contents)
         (K.written out.old) (K.written out.new) rack.old.items rack.new.items result) }
-    ensures shelf { KeepsShelf S.told S.faults S.is_last (IsReached (S.told shelf.old) (files_named named.entry))
+    ensures shelf { KeepsShelf S.Shelf (IsReached (S.told shelf.old) (files_named named.entry))
         shelf.old shelf.new result }
-    ensures output { KeepsCount K.faults K.is_last out.old out.new result }
+    ensures output { KeepsCount K.Sink out.old out.new result }
 {
     match board_named(alloc, shelf, named.board) {
         Ok(devices) => answer_file(alloc, &devices, named.file, shelf, rack, out),
@@ -86,9 +86,9 @@ fn run<S: Shelf, K: Sink>(
         (WordsDue (map string_bytes words.now) contents)
         (WordsHoldLeft (map string_bytes words.now) contents)
         (K.written out.old) (K.written out.new) rack.old.items rack.new.items result) }
-    ensures shelf { KeepsShelf S.told S.faults S.is_last
+    ensures shelf { KeepsShelf S.Shelf
         (IsReachedBy link_key (S.told shelf.old) (map string_bytes words.now)) shelf.old shelf.new result }
-    ensures output { KeepsCount K.faults K.is_last out.old out.new result }
+    ensures output { KeepsCount K.Sink out.old out.new result }
 {
     match read_words(words, "link=") {
         Ok(named) => answer_request(alloc, named, shelf, rack, out),
@@ -123,7 +123,7 @@ pub fn run_link<S: Shelf, K: Sink>(
 
     // A read fault comes only where the count of a file that the words name rose, of the bytes of the link only if no
     // told board is refused. Then the answers to the bytes that were read are written, and nothing else.
-    ensures read { result ≡ LinkStatus.ReadFault → HasReadCause S.faults S.is_last
+    ensures read { result ≡ LinkStatus.ReadFault → HasReadCause S.Shelf
         (IsReachedBy link_key (S.told shelf.old) (map string_bytes words.now)) shelf.old shelf.new }
     ensures due { result ≡ LinkStatus.ReadFault →
         OfWords link_key (S.told shelf.old) (map string_bytes words.now) (λ contents.

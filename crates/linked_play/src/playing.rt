@@ -68,7 +68,7 @@ pub fn play_told<C: Cable, K: Sink, L: Ledger>(
     ensures bounded { steps.new ≤ steps.old + (turns + 1) * length code.now.instrs }
     ensures kept_cable { NeverFalls (cable_faults C.line_faults C.pin_faults)
         (IsCableLast C.is_line_last C.is_pin_last) cable.old cable.new }
-    ensures kept { SinkNeverFalls K.faults K.is_last out.old out.new }
+    ensures kept { SinkNeverFalls K.Sink out.old out.new }
     ensures fault { IfErr result (λ trouble. IfFault trouble
         (HasRisen (cable_faults C.line_faults C.pin_faults) (IsCableLast C.is_line_last C.is_pin_last)
         cable.old cable.new) (HasRisen K.faults K.is_last (sink_of out.old) (sink_of out.new))) }
@@ -123,7 +123,7 @@ pub fn play_linked<W: Wire, K: Sink, L: Ledger>(
     ensures bounded { steps.new ≤ steps.old + (turns + 1) * length code.now.instrs }
     ensures kept_cable { NeverFalls (cable_faults (cable_count W.faults) no_faults)
         (IsCableLast (IsCountLast W.is_last) IsNever) cable.old cable.new }
-    ensures kept { SinkNeverFalls K.faults K.is_last out.old out.new }
+    ensures kept { SinkNeverFalls K.Sink out.old out.new }
     ensures fault { IfErr result (λ trouble. IfFault trouble
         (HasRisen (cable_faults (cable_count W.faults) no_faults) (IsCableLast (IsCountLast W.is_last) IsNever)
         cable.old cable.new) (HasRisen K.faults K.is_last (sink_of out.old) (sink_of out.new))) }

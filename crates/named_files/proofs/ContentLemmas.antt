@@ -1,6 +1,7 @@
 -- On the contents of the two files: the board comes first, and the other file after it.
 use Rattle.std.proofs.Common.{◌≡◌, ◌∙◌, ℕ, List, [], ◌∷◌, map, Option, None, Some, IfSome, refl, sym, ap, subst}
 use Rattle.tool_io.specs.Causes.{NoneFalls}
+use Rattle.tool_io.specs.declared.outside.Shelf.{Ghosts as ShelfOf}
 use Rattle.tool_io.proofs.CauseLemmas.{rose_after_at}
 use Rattle.dev_card.specs.declared.desc.Desc.{Desc}
 use Rattle.tool_frame.specs.Files.{file_named, AreRead, OfFile, OfFiles, HasReadCause}
@@ -94,22 +95,22 @@ holds_board named devices (Some files) reads = record {
 }
 
 -- the other file could not be read after a board that is right
-pub file_cause : {S : Type 0} {faults : S → List ℕ → ℕ} {is_last : S → List ℕ → Type 0} (before between after : S) (named : FileNames) (devices : List Desc)
-    (told : Option (List (List ℕ × List ℕ))) → ReadsBoard told named.board devices → NoneFalls faults is_last before between →
-    HasReadCause faults is_last (λ read. read ≡ named.file) between after → HasReadCause faults is_last (IsReached told named) before after
-file_cause {faults = faults} {is_last = is_last} before between after named devices told reads kept c = record {
+pub file_cause : {S : Type 0} {shelf : ShelfOf S} (before between after : S) (named : FileNames) (devices : List Desc)
+    (told : Option (List (List ℕ × List ℕ))) → ReadsBoard told named.board devices → NoneFalls shelf.faults shelf.is_last before between →
+    HasReadCause shelf (λ read. read ≡ named.file) between after → HasReadCause shelf (IsReached told named) before after
+file_cause before between after named devices told reads kept c = record {
   path = c.path;
   is_reached = file_reached (sym c.is_reached) (holds_board named devices told reads);
   rose = rose_after_at kept c.rose;
 }
 
 -- a file that was reached is one that is asked for
-pub reached_asked : {S : Type 0} {faults : S → List ℕ → ℕ} {is_last : S → List ℕ → Type 0} {before after : S} (asks : FileNames → Type 0) {told : Option (List (List ℕ × List ℕ))}
-    {named : FileNames} → asks named → HasReadCause faults is_last (IsReached told named) before after → HasReadCause faults is_last (IsAskedAndReached asks told) before after
+pub reached_asked : {S : Type 0} {shelf : ShelfOf S} {before after : S} (asks : FileNames → Type 0) {told : Option (List (List ℕ × List ℕ))}
+    {named : FileNames} → asks named → HasReadCause shelf (IsReached told named) before after → HasReadCause shelf (IsAskedAndReached asks told) before after
 reached_asked asks {named = named} is c = record { path = c.path; is_reached = record { named = named; asked = is; reached = c.is_reached }; rose = c.rose }
 
 -- a file of the request that was reached is one of the words
-pub reached_by : {S : Type 0} {faults : S → List ℕ → ℕ} {is_last : S → List ℕ → Type 0} {before after : S} {key : List ℕ} {told : Option (List (List ℕ × List ℕ))}
-    {words : List (List ℕ)} {named : FileNames} → IsRequest key words named → HasReadCause faults is_last (IsReached told named) before after →
-    HasReadCause faults is_last (IsReachedBy key told words) before after
+pub reached_by : {S : Type 0} {shelf : ShelfOf S} {before after : S} {key : List ℕ} {told : Option (List (List ℕ × List ℕ))}
+    {words : List (List ℕ)} {named : FileNames} → IsRequest key words named → HasReadCause shelf (IsReached told named) before after →
+    HasReadCause shelf (IsReachedBy key told words) before after
 reached_by {key = key} {words = words} asks c = reached_asked (IsRequest key words) asks c

@@ -1,5 +1,5 @@
 //! The lines of what is refused.
-ghost use Rattle.tool_io.specs.Lines.{IsWhole, HasPut, KeepsLines};
+ghost use Rattle.tool_io.specs.Lines.{IsWhole, HasPut};
 ghost use Rattle.named_files.specs.Texts.{place_text, refusal_line, board_refusal_line, usage_line};
 
 use board_text::BoardReason;
@@ -9,8 +9,7 @@ use tool_io::{Failed, Lines, Sink, put_count, put_count_line, put_word_line};
 // Puts a piece and its line.
 fn put_place<K: Sink>(lines: &mut Lines<K>, piece: u32, line: u32) -> Result<(), Failed>
     requires { IsWhole lines.old }
-    ensures put { HasPut K.written lines.old (place_text piece line) lines.new result }
-    ensures kept { KeepsLines K.faults K.is_last lines.old lines.new result }
+    ensures { HasPut K.Sink lines.old (place_text piece line) lines.new result }
 {
     put_count(lines, b"R program ", piece)?;
     put_count(lines, b" line ", line)?;
@@ -28,8 +27,7 @@ pub fn put_refusal<K: Sink>(
     reason: Reason,
 ) -> Result<(), Failed>
     requires { IsWhole lines.old }
-    ensures put { HasPut K.written lines.old (refusal_line piece line reason) lines.new result }
-    ensures kept { KeepsLines K.faults K.is_last lines.old lines.new result }
+    ensures { HasPut K.Sink lines.old (refusal_line piece line reason) lines.new result }
 {
     put_place(lines, piece, line)?;
     lines.put(b" ")?;
@@ -47,8 +45,7 @@ pub fn put_board_refusal<K: Sink>(
     reason: BoardReason,
 ) -> Result<(), Failed>
     requires { IsWhole lines.old }
-    ensures put { HasPut K.written lines.old (board_refusal_line line reason) lines.new result }
-    ensures kept { KeepsLines K.faults K.is_last lines.old lines.new result }
+    ensures { HasPut K.Sink lines.old (board_refusal_line line reason) lines.new result }
 {
     put_count(lines, b"R board ", line)?;
     lines.put(b" ")?;
@@ -62,8 +59,7 @@ pub fn put_board_refusal<K: Sink>(
 /// `Failed` as of the sink.
 pub fn put_usage<K: Sink>(lines: &mut Lines<K>, n: u32) -> Result<(), Failed>
     requires { IsWhole lines.old }
-    ensures put { HasPut K.written lines.old (usage_line n) lines.new result }
-    ensures kept { KeepsLines K.faults K.is_last lines.old lines.new result }
+    ensures { HasPut K.Sink lines.old (usage_line n) lines.new result }
 {
     put_count_line(lines, b"R usage ", n)
 }

@@ -10,7 +10,8 @@ use Rattle.std.proofs.Math.Seq.{take-suc}
 use Rattle.std.proofs.lemmas.List.{length-drop, length-take, map-append, take-append-drop, take_all}
 use Rattle.base.specs.Decimals.{is_decimal}
 use Rattle.tool_io.specs.declared.lines.Lines.{Lines}
-use Rattle.tool_io.specs.Lines.{Puts, PutsFront, HasPut}
+use Rattle.tool_io.specs.declared.outside.Sink.{Ghosts as SinkOf}
+use Rattle.tool_io.specs.Lines.{IsWhole, Puts, PutsBroken, HasPut}
 use Rattle.tool_io.proofs.PutLemmas.{put_then, put_then_front, front_with, puts_same, front_same, puts_nothing}
 use Rattle.pin_lines.specs.PinLines.{lines_of, is_bad_line, has_bad_line, line_digits}
 use Rattle.trace_check.proofs.LineLemmas.{drop_twice}
@@ -56,14 +57,14 @@ line_time line len w short some =
     omega (arith, joined, clocks, waits, few, short, some)
 
 -- the clocks of the first digits are put
-module _ {K : Type 0} (written : K → Option (List ℕ)) (digits : List ℕ) where
+module _ {K : Type 0} (sink : SinkOf K) (digits : List ℕ) where
   pub record AreClockedUpTo (old new : Lines K) (first : Wave) (n : ℕ) (wave : Wave) : Type 0 where
     pub within : n ≤ length digits
-    pub puts : Puts written old (items_text first (map Clocked (take n digits))) new
+    pub puts : Puts sink old (items_text first (map Clocked (take n digits))) new
     pub is : wave ≡ after_items first (map Clocked (take n digits))
 
-  pub none_clocked : (lines : Lines K) (first : Wave) → AreClockedUpTo lines lines first 0 first
-  none_clocked lines first = record { within = omega arith; puts = puts_nothing written lines; is = refl }
+  pub none_clocked : (lines : Lines K) (first : Wave) → IsWhole lines → AreClockedUpTo lines lines first 0 first
+  none_clocked lines first whole = record { within = omega arith; puts = puts_nothing sink lines whole; is = refl }
 
   pub clocked_so_far : {old new : Lines K} {first : Wave} {n : ℕ} {wave : Wave} → AreClockedUpTo old new first n wave → wave.time ≡ first.time + 2 * n
   clocked_so_far {first = first} {n = n} h =
@@ -84,7 +85,7 @@ module _ {K : Type 0} (written : K → Option (List ℕ)) (digits : List ℕ) wh
         ∙ ap (λ t. items_text first (map Clocked (take n digits)) ++ t) (sym (append-nil (item_text (after_items first (map Clocked (take n digits))) (Clocked d))))
         ∙ sym (ap (items_text first) (one_more n d lt e) ∙ text_join (map Clocked (take n digits)) (Clocked d ∷ []) first)
 
-    pub clock_put : (new : Lines K) (after : Wave) → Puts written now (item_text wave (Clocked d)) new → after ≡ after_item wave (Clocked d) →
+    pub clock_put : (new : Lines K) (after : Wave) → Puts sink now (item_text wave (Clocked d)) new → after ≡ after_item wave (Clocked d) →
         AreClockedUpTo old new first (n + 1) after
     clock_put new after puts led = record {
       within = omega (arith, lt);
@@ -93,7 +94,7 @@ module _ {K : Type 0} (written : K → Option (List ℕ)) (digits : List ℕ) wh
           ∙ sym (ap (after_items first) (one_more n d lt e) ∙ after_join (map Clocked (take n digits)) (Clocked d ∷ []) first);
     }
 
-    pub clock_failed : (torn : Lines K) → PutsFront written now (item_text wave (Clocked d)) torn → PutsFront written old (items_text first (map Clocked digits)) torn
+    pub clock_failed : (torn : Lines K) → PutsBroken sink now (item_text wave (Clocked d)) torn → PutsBroken sink old (items_text first (map Clocked digits)) torn
     clock_failed torn front =
         let more = items_text (after_items first (map Clocked (take (n + 1) digits))) (map Clocked (drop (n + 1) digits)) in
         front_same
@@ -105,23 +106,23 @@ module _ {K : Type 0} (written : K → Option (List ℕ)) (digits : List ℕ) wh
   all_clocked {n = n} h end = take_all n digits end
 
 -- the items of the lines up to a place of a text are put
-module _ {K : Type 0} (written : K → Option (List ℕ)) (text : List ℕ) where
+module _ {K : Type 0} (sink : SinkOf K) (text : List ℕ) where
   pub record ArePutUpTo (old new : Lines K) (at : ℕ) (wave : Wave) : Type 0 where
     pub within : at ≤ length text
     pub good : has_bad_line (drop at text) ≡ false
     pub done : List Item
     pub parts : items_in text ≡ done ++ items_in (drop at text)
-    pub puts : Puts written old (items_text first_wave done) new
+    pub puts : Puts sink old (items_text first_wave done) new
     pub is : wave ≡ after_items first_wave done
     pub time : wave.time ≤ 8589934592 * at
 
-  pub none_put : (lines : Lines K) → has_bad_line text ≡ false → ArePutUpTo lines lines 0 first_wave
-  none_put lines good = record {
+  pub none_put : (lines : Lines K) → IsWhole lines → has_bad_line text ≡ false → ArePutUpTo lines lines 0 first_wave
+  none_put lines whole good = record {
     within = omega arith;
     good = good;
     done = [];
     parts = refl;
-    puts = puts_nothing written lines;
+    puts = puts_nothing sink lines whole;
     is = refl;
     time = omega arith;
   }
@@ -134,7 +135,7 @@ module _ {K : Type 0} (written : K → Option (List ℕ)) (text : List ℕ) wher
     pub line_good : is_bad_line line ≡ false
     line_good = (or_parts (is_bad_line line) (has_bad_line (drop len rest)) (sym (ap (list_any is_bad_line) first) ∙ ap has_bad_line is ∙ h.good)).0
 
-    pub line_put : (new : Lines K) (after : Wave) → Puts written now (items_text wave (line_items line)) new → after ≡ after_items wave (line_items line) →
+    pub line_put : (new : Lines K) (after : Wave) → Puts sink now (items_text wave (line_items line)) new → after ≡ after_items wave (line_items line) →
         ArePutUpTo old new (at + len) after
     line_put new after puts e =
         let r : length rest ≡ length text - at = ap (λ (xs : List ℕ). length xs) is ∙ length-drop at text in
@@ -154,7 +155,7 @@ module _ {K : Type 0} (written : K → Option (List ℕ)) (text : List ℕ) wher
           time = omega (arith, led, time, h.time);
         }
 
-    pub line_failed : (torn : Lines K) → PutsFront written now (items_text wave (line_items line)) torn → PutsFront written old (items_text first_wave (items_in text)) torn
+    pub line_failed : (torn : Lines K) → PutsBroken sink now (items_text wave (line_items line)) torn → PutsBroken sink old (items_text first_wave (items_in text)) torn
     line_failed torn front =
         let more = items_text (after_items wave (line_items line)) (items_in (drop len rest)) in
         front_same
@@ -169,9 +170,9 @@ module _ {K : Type 0} (written : K → Option (List ℕ)) (text : List ℕ) wher
       sym (h.parts ∙ ap (λ (t : List ℕ). h.done ++ items_in t) (drop_of_length-le text end) ∙ append-nil h.done)
 
 -- the same text of a call
-pub has_put_same : {K T E : Type 0} {written : K → Option (List ℕ)} {a b : Lines K} {xs ys : List ℕ} (r : Result T E) → xs ≡ ys → HasPut written a xs b r →
-    HasPut written a ys b r
-has_put_same {written = written} {a = a} {b = b} r e p = subst (λ (zs : List ℕ). HasPut written a zs b r) e p
+pub has_put_same : {K T E : Type 0} (sink : SinkOf K) (a b : Lines K) {xs ys : List ℕ} (r : Result T E) → xs ≡ ys → HasPut sink a xs b r →
+    HasPut sink a ys b r
+has_put_same sink a b r e p = subst (λ (zs : List ℕ). HasPut sink a zs b r) e p
 
 -- nothing changes, or something does
 pub no_moment : (time : ℕ) (old new : Levels) → are_same old new ≡ true → [] ≡ moment time old new

@@ -1,7 +1,7 @@
 //! The wave of a trace, put item by item.
 ghost use Rattle.std.specs.Prelude.{◌≡◌, ◌≤◌, ◌<◌, ◌+◌, ◌*◌, ◌^◌, ◌++◌, ℕ, pos, false, codes, map, length, slice_index_or, IfOk, IfSome};
 ghost use Rattle.trace_check.specs.Limits.{trace_limit};
-ghost use Rattle.tool_io.specs.Lines.{IsWhole, HasPut, KeepsLines};
+ghost use Rattle.tool_io.specs.Lines.{IsWhole, HasPut};
 ghost use Rattle.pin_lines.specs.PinLines.{is_bad_line, has_bad_line};
 ghost use Rattle.pin_waves.specs.Items.{Clocked, Waited, most_usec, line_items, items_in};
 ghost use Rattle.pin_waves.specs.Found.{waits_found};
@@ -93,8 +93,7 @@ impl Control {
 // Puts the line of a wire, if it changes.
 fn put_wire<K: Sink>(lines: &mut Lines<K>, id: u8, old: u8, new: u8) -> Result<(), Failed>
     requires { IsWhole lines.old }
-    ensures put { HasPut K.written lines.old (wire_change id old new) lines.new result }
-    ensures kept { KeepsLines K.faults K.is_last lines.old lines.new result }
+    ensures { HasPut K.Sink lines.old (wire_change id old new) lines.new result }
 {
     if old == new {
         return Ok(());
@@ -105,8 +104,7 @@ fn put_wire<K: Sink>(lines: &mut Lines<K>, id: u8, old: u8, new: u8) -> Result<(
 // Puts the line of a state.
 fn put_state_line<K: Sink>(lines: &mut Lines<K>, n: u8) -> Result<(), Failed>
     requires { IsWhole lines.old }
-    ensures put { HasPut K.written lines.old (state_line n) lines.new result }
-    ensures kept { KeepsLines K.faults K.is_last lines.old lines.new result }
+    ensures { HasPut K.Sink lines.old (state_line n) lines.new result }
 {
     if n == 16 {
         return lines.put(b"bxxxx %\n");
@@ -126,8 +124,7 @@ fn put_state_line<K: Sink>(lines: &mut Lines<K>, n: u8) -> Result<(), Failed>
 // Puts the line of the state, if it changes.
 fn put_state<K: Sink>(lines: &mut Lines<K>, old: u8, new: u8) -> Result<(), Failed>
     requires { IsWhole lines.old }
-    ensures put { HasPut K.written lines.old (state_change old new) lines.new result }
-    ensures kept { KeepsLines K.faults K.is_last lines.old lines.new result }
+    ensures { HasPut K.Sink lines.old (state_change old new) lines.new result }
 {
     if old == new {
         return Ok(());
@@ -138,8 +135,7 @@ fn put_state<K: Sink>(lines: &mut Lines<K>, old: u8, new: u8) -> Result<(), Fail
 // Puts the lines of all that changes.
 fn put_changes<K: Sink>(lines: &mut Lines<K>, old: Levels, new: Levels) -> Result<(), Failed>
     requires { IsWhole lines.old }
-    ensures put { HasPut K.written lines.old (changes old new) lines.new result }
-    ensures kept { KeepsLines K.faults K.is_last lines.old lines.new result }
+    ensures { HasPut K.Sink lines.old (changes old new) lines.new result }
 {
     put_wire(lines, b'!', old.tck, new.tck)?;
     put_wire(lines, b'"', old.tms, new.tms)?;
@@ -153,8 +149,7 @@ fn put_changes<K: Sink>(lines: &mut Lines<K>, old: Levels, new: Levels) -> Resul
 fn put_time<K: Sink>(lines: &mut Lines<K>, time: u64) -> Result<(), Failed>
     requires whole { IsWhole lines.old }
     requires small { time < 2 ^ 63 }
-    ensures put { HasPut K.written lines.old (time_line time) lines.new result }
-    ensures kept { KeepsLines K.faults K.is_last lines.old lines.new result }
+    ensures { HasPut K.Sink lines.old (time_line time) lines.new result }
 {
     put_number_line(lines, b"#", time as i64)
 }
@@ -168,8 +163,7 @@ fn put_times<K: Sink>(
 ) -> Result<(), Failed>
     requires whole { IsWhole lines.old }
     requires small { time < 2 ^ 63 }
-    ensures put { HasPut K.written lines.old (time_line time ++ changes old new) lines.new result }
-    ensures kept { KeepsLines K.faults K.is_last lines.old lines.new result }
+    ensures { HasPut K.Sink lines.old (time_line time ++ changes old new) lines.new result }
 {
     put_time(lines, time)?;
     put_changes(lines, old, new)?;
@@ -196,8 +190,7 @@ fn put_moment<K: Sink>(
 ) -> Result<(), Failed>
     requires whole { IsWhole lines.old }
     requires small { time < 2 ^ 63 }
-    ensures put { HasPut K.written lines.old (moment time old new) lines.new result }
-    ensures kept { KeepsLines K.faults K.is_last lines.old lines.new result }
+    ensures { HasPut K.Sink lines.old (moment time old new) lines.new result }
 {
     if are_same(old, new) {
         return Ok(());
@@ -255,8 +248,7 @@ fn put_clock<K: Sink>(lines: &mut Lines<K>, wave: Wave, digit: u8) -> Result<Wav
     requires digit { 48 ≤ digit }
     requires small { wave.time + 2 < 2 ^ 63 }
     ensures next { IfOk result (λ after. after ≡ after_item wave (Clocked digit)) }
-    ensures put { HasPut K.written lines.old (item_text wave (Clocked digit)) lines.new result }
-    ensures kept { KeepsLines K.faults K.is_last lines.old lines.new result }
+    ensures put { HasPut K.Sink lines.old (item_text wave (Clocked digit)) lines.new result }
 {
     let low = low_levels(wave.levels, digit);
     let after = after_clock(wave, digit);
@@ -271,8 +263,7 @@ fn put_digits<K: Sink>(lines: &mut Lines<K>, wave: Wave, digits: &[u8]) -> Resul
     requires digits { (k : ℕ) → k < length digits.now → 48 ≤ slice_index_or digits.now k 48 }
     requires small { wave.time + 2 * length digits.now < 2 ^ 63 }
     ensures next { IfOk result (λ after. after ≡ after_items wave (map Clocked digits.now)) }
-    ensures put { HasPut K.written lines.old (items_text wave (map Clocked digits.now)) lines.new result }
-    ensures kept { KeepsLines K.faults K.is_last lines.old lines.new result }
+    ensures put { HasPut K.Sink lines.old (items_text wave (map Clocked digits.now)) lines.new result }
 {
     let mut after = wave;
     let mut n = 0;
@@ -301,8 +292,7 @@ fn put_wait<K: Sink>(lines: &mut Lines<K>, wave: Wave, wait: Option<u64>) -> Res
     requires short { IfSome wait (λ usec. usec ≤ most_usec) }
     requires small { wave.time + most_usec < 2 ^ 63 }
     ensures next { IfOk result (λ after. after ≡ after_items wave (waits_found wait)) }
-    ensures put { HasPut K.written lines.old (items_text wave (waits_found wait)) lines.new result }
-    ensures kept { KeepsLines K.faults K.is_last lines.old lines.new result }
+    ensures put { HasPut K.Sink lines.old (items_text wave (waits_found wait)) lines.new result }
 {
     let Some(usec) = wait else {
         return Ok(wave);
@@ -318,8 +308,7 @@ fn put_line<K: Sink>(lines: &mut Lines<K>, wave: Wave, line: &[u8]) -> Result<Wa
     requires good { is_bad_line line.now ≡ false }
     requires small { wave.time + (2 * length line.now + most_usec) < 2 ^ 63 }
     ensures next { IfOk result (λ after. after ≡ after_items wave (line_items line.now)) }
-    ensures put { HasPut K.written lines.old (items_text wave (line_items line.now)) lines.new result }
-    ensures kept { KeepsLines K.faults K.is_last lines.old lines.new result }
+    ensures put { HasPut K.Sink lines.old (items_text wave (line_items line.now)) lines.new result }
 {
     let clocked = put_digits(lines, wave, digits_of(line))?;
     put_wait(lines, clocked, wait_of(line))
@@ -332,8 +321,7 @@ fn put_items<K: Sink>(lines: &mut Lines<K>, text: &[u8]) -> Result<Wave, Failed>
     requires good { has_bad_line text.now ≡ false }
     ensures next { IfOk result (λ after. after ≡ after_items first_wave (items_in text.now)) }
     ensures small { IfOk result (λ after. after.time < 2 ^ 63) }
-    ensures put { HasPut K.written lines.old (items_text first_wave (items_in text.now)) lines.new result }
-    ensures kept { KeepsLines K.faults K.is_last lines.old lines.new result }
+    ensures put { HasPut K.Sink lines.old (items_text first_wave (items_in text.now)) lines.new result }
 {
     let mut wave = first_wave();
     let mut at = 0;
@@ -366,8 +354,7 @@ fn first_wave() -> Wave
 fn put_end<K: Sink>(lines: &mut Lines<K>, wave: Wave) -> Result<(), Failed>
     requires whole { IsWhole lines.old }
     requires small { wave.time < 2 ^ 63 }
-    ensures put { HasPut K.written lines.old (end_text wave) lines.new result }
-    ensures kept { KeepsLines K.faults K.is_last lines.old lines.new result }
+    ensures { HasPut K.Sink lines.old (end_text wave) lines.new result }
 {
     put_times(lines, wave.time, wave.levels, rest_levels(wave.levels))
 }
@@ -384,8 +371,7 @@ pub fn put_wave<K: Sink>(lines: &mut Lines<K>, text: &[u8]) -> Result<(), Failed
     requires whole { IsWhole lines.old }
     requires few { length text.now ≤ trace_limit }
     requires good { has_bad_line text.now ≡ false }
-    ensures put { HasPut K.written lines.old (wave_text (items_in text.now)) lines.new result }
-    ensures kept { KeepsLines K.faults K.is_last lines.old lines.new result }
+    ensures { HasPut K.Sink lines.old (wave_text (items_in text.now)) lines.new result }
 {
     lines.put(HEAD)?;
     let wave = put_items(lines, text)?;

@@ -2,8 +2,9 @@
 use Rattle.std.proofs.Common.{◌≡◌, ◌∙◌, ◌<◌, ℕ, List, [], length, ◌++◌, Option, None, Some, IfSome, IsSomeAnd, Result, Ok, sym, ap, subst}
 use Rattle.std.specs.Prelude.{IsErrAnd}
 use Rattle.tool_io.specs.declared.lines.Lines.{Lines}
+use Rattle.tool_io.specs.declared.outside.Sink.{Ghosts as SinkOf}
 use Rattle.tool_io.specs.Files.{file_of}
-use Rattle.tool_io.specs.Lines.{IsSinkUntouched, Puts, PutsFront}
+use Rattle.tool_io.specs.Lines.{IsSilent, Puts, PutsBroken}
 use Rattle.stapl_code.specs.declared.raw.CodeLists.{CodeLists}
 use Rattle.stapl_code.specs.declared.reason.CodeReason.{CodeReason}
 use Rattle.stapl_code.specs.declared.reason.CodeReason.TheVariants as code_reasons
@@ -61,16 +62,16 @@ held_refused : (request : PlayRequest) (devices : List Desc) (offset : ℕ) (rea
 held_refused request devices offset reason None fault = fault
 held_refused request devices offset reason (Some bytes) fault = code_refused offset reason fault
 
-module _ {K : Type 0} {written : K → Option (List ℕ)} {old new : Lines K} {told : Option (List (List ℕ × List ℕ))} {path : List ℕ} (request : PlayRequest) (devices : List Desc)
+module _ {K : Type 0} {sink : SinkOf K} {old new : Lines K} {told : Option (List (List ℕ × List ℕ))} {path : List ℕ} (request : PlayRequest) (devices : List Desc)
     (offset : ℕ) (reason : CodeReason) (reads : ReadsCodeFault told path offset reason) where
-  pub code_refusal_failed : (r : Result Status NoAnswer) → IsErrAnd r (λ e. e ≡ Write) → PutsFront written old (code_refusal_line offset reason) new →
-      OfFile told (Some path) (λ held. Says written (HeldAnswer (CodeAnswer request devices) held) (IsSinkUntouched old new) old new r)
+  pub code_refusal_failed : (r : Result Status NoAnswer) → IsErrAnd r (λ e. e ≡ Write) → PutsBroken sink old (code_refusal_line offset reason) new →
+      OfFile told (Some path) (λ held. Says sink (HeldAnswer (CodeAnswer request devices) held) (IsSilent old new) old new r)
   code_refusal_failed r is front = of_file_as (λ held fault.
-      says_failed written (HeldAnswer (CodeAnswer request devices) held) _ old new r is
+      says_failed sink (HeldAnswer (CodeAnswer request devices) held) _ old new r is
       (said_front (code_refusal_line offset reason) (CodeRefused offset reason) (held_refused request devices offset reason held fault) front)) reads
 
-  pub code_refusal_put : Puts written old (code_refusal_line offset reason) new →
-      OfFile told (Some path) (λ held. Says written (HeldAnswer (CodeAnswer request devices) held) (IsSinkUntouched old new) old new (Ok (CodeRefused offset reason)))
+  pub code_refusal_put : Puts sink old (code_refusal_line offset reason) new →
+      OfFile told (Some path) (λ held. Says sink (HeldAnswer (CodeAnswer request devices) held) (IsSilent old new) old new (Ok (CodeRefused offset reason)))
   code_refusal_put put = of_file_as (λ held fault. said_text (code_refusal_line offset reason) (held_refused request devices offset reason held fault) put) reads
 
 -- Bytes that are too long, and a fault by its parts.

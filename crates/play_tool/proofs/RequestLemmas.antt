@@ -4,6 +4,7 @@ use Rattle.tool_io.specs.Causes.{NoneFalls}
 use Rattle.tool_io.proofs.CauseLemmas.{rose_after_at}
 use Rattle.dev_card.specs.declared.desc.Desc.{Desc}
 use Rattle.dev_card.specs.Sound.{SoundCard}
+use Rattle.tool_io.specs.declared.outside.Shelf.{Ghosts as ShelfOf}
 use Rattle.tool_frame.specs.Files.{file_named, AreRead, OfFile, OfFiles, HasReadCause}
 use Rattle.tool_frame.proofs.AnswerLemmas.{IsWithin}
 use Rattle.named_files.specs.Boards.{HasBoard, ReadsBoard}
@@ -112,19 +113,19 @@ holds_board path devices (Some files) reads = record {
 }
 
 -- what is played could not be read after a board that is right
-pub source_cause : {S : Type 0} {faults : S → List ℕ → ℕ} {is_last : S → List ℕ → Type 0} (before between after : S) (play : FilePlay) (devices : List Desc)
+pub source_cause : {S : Type 0} {shelf : ShelfOf S} (before between after : S) (play : FilePlay) (devices : List Desc)
     (told : Option (List (List ℕ × List ℕ))) (board source : List ℕ) → board ≡ play.board → source ≡ play.source → ReadsBoard told board devices →
-    NoneFalls faults is_last before between → HasReadCause faults is_last (λ read. read ≡ source) between after → HasReadCause faults is_last (IsPlayFile told play) before after
-source_cause {faults = faults} {is_last = is_last} before between after play devices told board source b s reads kept c = record {
+    NoneFalls shelf.faults shelf.is_last before between → HasReadCause shelf (λ read. read ≡ source) between after → HasReadCause shelf (IsPlayFile told play) before after
+source_cause before between after play devices told board source b s reads kept c = record {
   path = c.path;
   is_reached = source_reached (c.is_reached ∙ s) (subst (λ (p : List ℕ). IfSome told (HoldsBoard p)) b (holds_board board devices told reads));
   rose = rose_after_at kept c.rose;
 }
 
 -- A file of the request that was reached is one of the words.
-pub reached_by : {S : Type 0} {faults : S → List ℕ → ℕ} {is_last : S → List ℕ → Type 0} {before after : S}
+pub reached_by : {S : Type 0} {shelf : ShelfOf S} {before after : S}
     {told : Option (List (List ℕ × List ℕ))} {words : List (List ℕ)} {request : Request} → IsRequest words request →
-    HasReadCause faults is_last (IsReached told request) before after → HasReadCause faults is_last (IsReachedBy told words) before after
+    HasReadCause shelf (IsReached told request) before after → HasReadCause shelf (IsReachedBy told words) before after
 reached_by {request = request} asks c = record { path = c.path; is_reached = record { request = request; asked = asks; reached = c.is_reached }; rose = c.rose }
 
 -- A usage number, by an equal one.

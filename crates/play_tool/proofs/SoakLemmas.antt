@@ -3,8 +3,9 @@ use Rattle.std.proofs.Common.{◌≡◌, ◌∙◌, ◌++◌, ◌==◌, ◌≤�
 use Rattle.std.proofs.lemmas.List.Sums.{count_by-le-length}
 use Rattle.std.specs.Prelude.{IfNone, false}
 use Rattle.tool_io.specs.declared.lines.Lines.{Lines}
+use Rattle.tool_io.specs.declared.outside.Sink.{Ghosts as SinkOf}
 use Rattle.tool_io.specs.Lines.{IsSinkUntouched, Puts}
-use Rattle.tool_io.proofs.PutLemmas.{put_then, put_then_front}
+use Rattle.tool_io.proofs.PutLemmas.{put_then, then_front}
 use Rattle.stapl_lexer.specs.ReservedWords.{word_terminal, is_free_name}
 use Rattle.board_text.specs.declared.reason.BoardReason.{BoardReason}
 use Rattle.board_text.specs.Boards.{IsFirstFault}
@@ -44,18 +45,18 @@ line_is seed devices place pieces program d p n e =
     rw (d, p, n ∙ ap (λ (text : List ℕ). count_by (λ (b : ℕ). b == 59) text) e) refl
 
 -- The line was put, and waits; and then the play's answer is said.
-pub soak_says : {K : Type 0} (written : K → Option (List ℕ)) (a b c : Lines K) (seed : ℕ) (r : Result Status NoAnswer) →
-    Puts written a (soak_head seed) b → IsSinkUntouched a b → Says written (SoakPlayAnswer seed) ⊥ b c r → Says written (SoakAnswer seed) ⊥ a c r
-soak_says written a b c seed (Ok status) put same w = record {
+pub soak_says : {K : Type 0} (sink : SinkOf K) (a b c : Lines K) (seed : ℕ) (r : Result Status NoAnswer) →
+    Puts sink a (soak_head seed) b → IsSinkUntouched a b → Says sink (SoakPlayAnswer seed) ⊥ b c r → Says sink (SoakAnswer seed) ⊥ a c r
+soak_says sink a b c seed (Ok status) put same w = record {
   text = soak_head seed ++ w.text;
   answer = record { rest = w.text; text_is = refl; play = w.answer };
   puts = put_then put w.puts;
 }
-soak_says written a b c seed (Err Read) put same w = w
-soak_says written a b c seed (Err Write) put same w = record {
+soak_says sink a b c seed (Err Read) put same w = w
+soak_says sink a b c seed (Err Write) put same w = record {
   text = soak_head seed ++ w.text;
   status = w.status;
   answer = record { rest = w.text; text_is = refl; play = w.answer };
-  puts = put_then_front put w.puts;
+  puts = then_front put w.puts;
 }
-soak_says written a b c seed (Err Memory) put same w = w ∙ same
+soak_says sink a b c seed (Err Memory) put same w = (w.0 ∙ put.same_sink, w.1 ∙ same)

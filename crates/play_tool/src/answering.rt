@@ -1,7 +1,6 @@
 //! What is answered to a request.
 ghost use Rattle.std.specs.Prelude.{◌≡◌, [], map};
 ghost use Rattle.tool_io.specs.Lines.{IsWhole, gathered};
-ghost use Rattle.tool_frame.specs.Answers.{KeepsOutput};
 ghost use Rattle.tool_frame.specs.Files.{OfFiles, KeepsShelf, first_of, second_of};
 ghost use Rattle.tool_frame.specs.Frame.{SaysAndLeaves};
 ghost use Rattle.chain_sim.specs.Rack.{IsRack};
@@ -32,14 +31,13 @@ fn answer_play<S: Shelf, K: Sink>(
 ) -> Result<Status, NoAnswer>
     requires rack { IsRack (map kind_of rack.old.items) }
     requires whole { IsWhole lines.old }
-    ensures answers { OfFiles (ArePlayFiles play.now) (S.told shelf.old) (λ contents. SaysAndLeaves K.written
+    ensures answers { OfFiles (ArePlayFiles play.now) (S.told shelf.old) (λ contents. SaysAndLeaves K.Sink
         (PlayAnswer source play.now.request (first_of contents) (second_of contents))
         (LeavesRack kind_of fitted (Unit {0})
         (PlayHoldsFinal source play.now.request (first_of contents) (second_of contents)))
         lines.old lines.new rack.old.items rack.new.items result) }
-    ensures shelf { KeepsShelf S.told S.faults S.is_last (IsPlayFile (S.told shelf.old) play.now)
+    ensures shelf { KeepsShelf S.Shelf (IsPlayFile (S.told shelf.old) play.now)
         shelf.old shelf.new result }
-    ensures output { KeepsOutput K.faults K.is_last lines.old lines.new result }
 {
     match board_named(alloc, shelf, play.board.as_str()) {
         Ok(devices) => {
@@ -77,13 +75,12 @@ pub(crate) fn answer_request<S: Shelf, K: Sink>(
     requires rack { IsRack (map kind_of rack.old.items) }
     requires whole { IsWhole lines.old }
     requires empty { gathered lines.old ≡ [] }
-    ensures answers { OfFiles (AreFilesOf request.now) (S.told shelf.old) (λ contents. SaysAndLeaves K.written
+    ensures answers { OfFiles (AreFilesOf request.now) (S.told shelf.old) (λ contents. SaysAndLeaves K.Sink
         (RequestAnswer request.now contents)
         (LeavesRack kind_of fitted (IsPlaying request.now) (RequestHoldsFinal request.now contents))
         lines.old lines.new rack.old.items rack.new.items result) }
-    ensures shelf { KeepsShelf S.told S.faults S.is_last (IsReached (S.told shelf.old) request.now)
+    ensures shelf { KeepsShelf S.Shelf (IsReached (S.told shelf.old) request.now)
         shelf.old shelf.new result }
-    ensures output { KeepsOutput K.faults K.is_last lines.old lines.new result }
 {
     match request {
         Request::Play(play) => answer_play(alloc, Source::Program, play, shelf, rack, lines),

@@ -1,6 +1,6 @@
 //! The lines that this tool alone writes.
 ghost use Rattle.std.specs.Prelude.{◌≡◌, ◌≤◌, ◌+◌, ◌++◌, ◌<◌, ◌^◌, length, pos, IfOk, OnOk};
-ghost use Rattle.tool_io.specs.Lines.{IsWhole, HasPut, KeepsLines};
+ghost use Rattle.tool_io.specs.Lines.{IsWhole, HasPut};
 ghost use Rattle.tool_io.specs.Texts.{labelled};
 ghost use Rattle.play_tool.specs.Texts.{code_refusal_line};
 ghost use Rattle.play_tool.specs.SoakLines.{summary_line};
@@ -19,8 +19,7 @@ pub fn put_code_refusal<K: Sink>(
     reason: CodeReason,
 ) -> Result<(), Failed>
     requires { IsWhole lines.old }
-    ensures put { HasPut K.written lines.old (code_refusal_line offset reason) lines.new result }
-    ensures kept { KeepsLines K.faults K.is_last lines.old lines.new result }
+    ensures { HasPut K.Sink lines.old (code_refusal_line offset reason) lines.new result }
 {
     put_count(lines, b"R code ", offset)?;
     lines.put(b" ")?;

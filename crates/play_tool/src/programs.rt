@@ -1,7 +1,7 @@
 //! What is done with a program.
 ghost use Rattle.std.specs.Prelude.{◌≡◌, map};
 ghost use Rattle.tool_io.specs.Lines.{IsWhole};
-ghost use Rattle.tool_frame.specs.Answers.{Says, KeepsOutput};
+ghost use Rattle.tool_frame.specs.Answers.{Says};
 ghost use Rattle.stapl_syntax.specs.Programs.{IsProgram};
 ghost use Rattle.stapl_syntax.specs.ProgramValues.{trees_of};
 ghost use Rattle.chain_sim.specs.Rack.{IsRack};
@@ -50,9 +50,8 @@ pub fn play_program<K: Sink>(
     requires rack { IsRack (map kind_of rack.old.items) }
     requires devices { CanBeFitted task.now.devices.now }
     requires whole { IsWhole lines.old }
-    ensures says { Says K.written (PlaysAction task.now.request.now task.now.devices.now (trees_of program.now)) ⊥
+    ensures says { Says K.Sink (PlaysAction task.now.request.now task.now.devices.now (trees_of program.now)) ⊥
         lines.old lines.new result }
-    ensures output { KeepsOutput K.faults K.is_last lines.old lines.new result }
     ensures rack { KeepsRack kind_of fitted (Unit {0})
         (HoldsFinal task.now.request.now task.now.devices.now (trees_of program.now))
         rack.old.items rack.new.items result }
@@ -70,9 +69,8 @@ fn check_program<K: Sink>(
 ) -> Result<Status, NoAnswer>
     requires program { IsProgram program.now.text (trees_of program.now) }
     requires whole { IsWhole lines.old }
-    ensures says { Says K.written (IsDone (IsCheckText program.now.text (trees_of program.now))) ⊥
+    ensures { Says K.Sink (IsDone (IsCheckText program.now.text (trees_of program.now))) ⊥
         lines.old lines.new result }
-    ensures output { KeepsOutput K.faults K.is_last lines.old lines.new result }
 {
     let words = check_words(alloc, program.text(), program.statements())?;
     put_check(lines, program.statements(), words)?;
@@ -82,9 +80,8 @@ fn check_program<K: Sink>(
 // Lists the notes of a program, and its actions with their procedures.
 fn list_program<K: Sink>(program: &Program, lines: &mut Lines<K>) -> Result<Status, NoAnswer>
     requires whole { IsWhole lines.old }
-    ensures says { Says K.written (IsDone (λ text. text ≡ list_text (trees_of program.now))) ⊥
+    ensures { Says K.Sink (IsDone (λ text. text ≡ list_text (trees_of program.now))) ⊥
         lines.old lines.new result }
-    ensures output { KeepsOutput K.faults K.is_last lines.old lines.new result }
 {
     put_list(lines, program.statements())?;
     Ok(Status::Done(0))
@@ -98,8 +95,7 @@ fn compile_program<K: Sink>(
 ) -> Result<Status, NoAnswer>
     requires program { IsProgram program.now.text (trees_of program.now) }
     requires whole { IsWhole lines.old }
-    ensures says { Says K.written (Compiles (trees_of program.now)) ⊥ lines.old lines.new result }
-    ensures output { KeepsOutput K.faults K.is_last lines.old lines.new result }
+    ensures { Says K.Sink (Compiles (trees_of program.now)) ⊥ lines.old lines.new result }
 {
     let code = generate(alloc, program)?;
     let file = encode_code(alloc, &code)?;
@@ -116,8 +112,7 @@ pub fn work_on<K: Sink>(
 ) -> Result<Status, NoAnswer>
     requires program { IsProgram program.now.text (trees_of program.now) }
     requires whole { IsWhole lines.old }
-    ensures says { Says K.written (Works work program.now.text (trees_of program.now)) ⊥ lines.old lines.new result }
-    ensures output { KeepsOutput K.faults K.is_last lines.old lines.new result }
+    ensures { Says K.Sink (Works work program.now.text (trees_of program.now)) ⊥ lines.old lines.new result }
 {
     match work {
         Work::Check => check_program(alloc, program, lines),

@@ -1,7 +1,7 @@
 //! The play of a program that is made from a number, on a board that is made from it.
 ghost use Rattle.std.specs.Prelude.{◌≡◌, ◌≤◌, ◌==◌, [], Some, count_by, length, map};
 ghost use Rattle.tool_io.specs.Lines.{IsWhole, gathered};
-ghost use Rattle.tool_frame.specs.Answers.{Says, KeepsOutput};
+ghost use Rattle.tool_frame.specs.Answers.{Says};
 ghost use Rattle.chain_sim.specs.Rack.{IsRack};
 ghost use Rattle.board_text.specs.Boards.{CanBeFitted};
 ghost use Rattle.code_plays.specs.Racks.{KeepsRack};
@@ -62,9 +62,8 @@ fn play_text<K: Sink>(
     requires rack { IsRack (map kind_of rack.old.items) }
     requires devices { CanBeFitted task.now.devices.now }
     requires whole { IsWhole lines.old }
-    ensures says { Says K.written (TextAnswer (PlaysAction task.now.request.now task.now.devices.now) bytes.now) ⊥
+    ensures says { Says K.Sink (TextAnswer (PlaysAction task.now.request.now task.now.devices.now) bytes.now) ⊥
         lines.old lines.new result }
-    ensures output { KeepsOutput K.faults K.is_last lines.old lines.new result }
     ensures rack { KeepsRack kind_of fitted (Unit {0})
         (TextHoldsFinal task.now.request.now task.now.devices.now bytes.now) rack.old.items rack.new.items result }
 {
@@ -95,9 +94,8 @@ fn play_texts<K: Sink>(
 ) -> Result<Status, NoAnswer>
     requires rack { IsRack (map kind_of rack.old.items) }
     requires whole { IsWhole lines.old }
-    ensures says { Says K.written (PlayAnswer OfProgram request.now (Some board.now) (Some program.now)) ⊥
+    ensures says { Says K.Sink (PlayAnswer OfProgram request.now (Some board.now) (Some program.now)) ⊥
         lines.old lines.new result }
-    ensures output { KeepsOutput K.faults K.is_last lines.old lines.new result }
     ensures rack { KeepsRack kind_of fitted (Unit {0})
         (PlayHoldsFinal OfProgram request.now (Some board.now) (Some program.now))
         rack.old.items rack.new.items result }
@@ -130,8 +128,7 @@ pub(crate) fn answer_soak<K: Sink>(
     requires rack { IsRack (map kind_of rack.old.items) }
     requires whole { IsWhole lines.old }
     requires empty { gathered lines.old ≡ [] }
-    ensures says { Says K.written (SoakAnswer seed) ⊥ lines.old lines.new result }
-    ensures output { KeepsOutput K.faults K.is_last lines.old lines.new result }
+    ensures says { Says K.Sink (SoakAnswer seed) ⊥ lines.old lines.new result }
     ensures rack { KeepsRack kind_of fitted (Unit {0}) (SoakHoldsFinal seed) rack.old.items rack.new.items result }
 {
     let soak = soak_texts(alloc, seed)?;

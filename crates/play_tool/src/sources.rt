@@ -1,7 +1,7 @@
 //! What is asked of a program or of a code in a file.
 ghost use Rattle.std.specs.Prelude.{◌≡◌, Some, map};
-ghost use Rattle.tool_io.specs.Lines.{IsWhole, IsSinkUntouched};
-ghost use Rattle.tool_frame.specs.Answers.{Says, KeepsOutput};
+ghost use Rattle.tool_io.specs.Lines.{IsWhole, IsSilent};
+ghost use Rattle.tool_frame.specs.Answers.{Says};
 ghost use Rattle.tool_frame.specs.Files.{OfFile, KeepsShelf};
 ghost use Rattle.tool_frame.specs.Frame.{SaysAndLeaves};
 ghost use Rattle.board_text.specs.Boards.{CanBeFitted};
@@ -43,13 +43,12 @@ fn play_program_file<S: Shelf, K: Sink>(
     requires rack { IsRack (map kind_of rack.old.items) }
     requires devices { CanBeFitted task.now.devices.now }
     requires whole { IsWhole lines.old }
-    ensures answers { OfFile (S.told shelf.old) (Some path.now) (λ held. SaysAndLeaves K.written
+    ensures answers { OfFile (S.told shelf.old) (Some path.now) (λ held. SaysAndLeaves K.Sink
         (HeldAnswer (SourceAnswer OfProgram task.now.request.now task.now.devices.now) held)
         (LeavesRack kind_of fitted (Unit {0})
         (HeldFinal (SourceHoldsFinal OfProgram task.now.request.now task.now.devices.now) held))
         lines.old lines.new rack.old.items rack.new.items result) }
-    ensures shelf { KeepsShelf S.told S.faults S.is_last (λ read. read ≡ path.now) shelf.old shelf.new result }
-    ensures output { KeepsOutput K.faults K.is_last lines.old lines.new result }
+    ensures shelf { KeepsShelf S.Shelf (λ read. read ≡ path.now) shelf.old shelf.new result }
 {
     match program_named(alloc, shelf, path) {
         Ok(program) => play_program(alloc, &program, task, rack, lines),
@@ -80,13 +79,12 @@ fn play_code_file<S: Shelf, K: Sink>(
     requires rack { IsRack (map kind_of rack.old.items) }
     requires devices { CanBeFitted task.now.devices.now }
     requires whole { IsWhole lines.old }
-    ensures answers { OfFile (S.told shelf.old) (Some path.now) (λ held. SaysAndLeaves K.written
+    ensures answers { OfFile (S.told shelf.old) (Some path.now) (λ held. SaysAndLeaves K.Sink
         (HeldAnswer (SourceAnswer OfCode task.now.request.now task.now.devices.now) held)
         (LeavesRack kind_of fitted (Unit {0})
         (HeldFinal (SourceHoldsFinal OfCode task.now.request.now task.now.devices.now) held))
         lines.old lines.new rack.old.items rack.new.items result) }
-    ensures shelf { KeepsShelf S.told S.faults S.is_last (λ read. read ≡ path.now) shelf.old shelf.new result }
-    ensures output { KeepsOutput K.faults K.is_last lines.old lines.new result }
+    ensures shelf { KeepsShelf S.Shelf (λ read. read ≡ path.now) shelf.old shelf.new result }
 {
     match code_named(alloc, shelf, path) {
         Ok(code) => play_code(alloc, &code, task, rack, lines),
@@ -112,13 +110,12 @@ pub(crate) fn play_source<S: Shelf, K: Sink>(
     requires rack { IsRack (map kind_of rack.old.items) }
     requires devices { CanBeFitted task.now.devices.now }
     requires whole { IsWhole lines.old }
-    ensures answers { OfFile (S.told shelf.old) (Some path.now) (λ held. SaysAndLeaves K.written
+    ensures answers { OfFile (S.told shelf.old) (Some path.now) (λ held. SaysAndLeaves K.Sink
         (HeldAnswer (SourceAnswer source task.now.request.now task.now.devices.now) held)
         (LeavesRack kind_of fitted (Unit {0})
         (HeldFinal (SourceHoldsFinal source task.now.request.now task.now.devices.now) held))
         lines.old lines.new rack.old.items rack.new.items result) }
-    ensures shelf { KeepsShelf S.told S.faults S.is_last (λ read. read ≡ path.now) shelf.old shelf.new result }
-    ensures output { KeepsOutput K.faults K.is_last lines.old lines.new result }
+    ensures shelf { KeepsShelf S.Shelf (λ read. read ≡ path.now) shelf.old shelf.new result }
 {
     match source {
         Source::Program => play_program_file(alloc, task, path, shelf, rack, lines),
@@ -136,9 +133,8 @@ pub(crate) fn work_on_file<S: Shelf, K: Sink>(
 ) -> Result<Status, NoAnswer>
     requires { IsWhole lines.old }
     ensures says { OfFile (S.told shelf.old) (Some path.now) (λ held.
-        Says K.written (WorkAnswer work held) (IsSinkUntouched lines.old lines.new) lines.old lines.new result) }
-    ensures shelf { KeepsShelf S.told S.faults S.is_last (λ read. read ≡ path.now) shelf.old shelf.new result }
-    ensures output { KeepsOutput K.faults K.is_last lines.old lines.new result }
+        Says K.Sink (WorkAnswer work held) (IsSilent lines.old lines.new) lines.old lines.new result) }
+    ensures shelf { KeepsShelf S.Shelf (λ read. read ≡ path.now) shelf.old shelf.new result }
 {
     match program_named(alloc, shelf, path) {
         Ok(program) => work_on(alloc, work, &program, lines),

@@ -36,7 +36,7 @@ pub fn run_tool<S: Shelf, K: Sink>(
 
     // A read fault comes only where the count of a file that the words name rose, of the program only if no told board
     // is refused, and then nothing is written.
-    ensures read { result ≡ Status.ReadFault → HasReadCause S.faults S.is_last
+    ensures read { result ≡ Status.ReadFault → HasReadCause S.Shelf
         (IsReachedBy (S.told shelf.old) (map string_bytes words.now)) shelf.old shelf.new }
     ensures nothing { result ≡ Status.ReadFault → K.written out.new ≡ K.written out.old }
 

@@ -1,5 +1,5 @@
 -- What the program writes, and how it ends. The rules are this tool's own.
-use Rattle.std.specs.Prelude.{◌≡◌, ◌≤◌, ◌<◌, ℕ, List, length, codes, Option, IsSomeAnd}
+use Rattle.std.specs.Prelude.{◌≤◌, ◌<◌, ℕ, List, length, codes, Option, IsSomeAnd}
 use Rattle.stapl_lexer.specs.declared.reason.Reason.{Reason}
 use Rattle.stapl_lexer.specs.Pieces.{text_limit}
 use Rattle.stapl_syntax.specs.Trees.{StmtTree}

@@ -1,7 +1,7 @@
 //! What is answered for the text of a program in a file.
 ghost use Rattle.std.specs.Prelude.{◌≡◌, Some};
-ghost use Rattle.tool_io.specs.Lines.{IsWhole, IsSinkUntouched};
-ghost use Rattle.tool_frame.specs.Answers.{Says, KeepsOutput};
+ghost use Rattle.tool_io.specs.Lines.{IsWhole, IsSilent};
+ghost use Rattle.tool_frame.specs.Answers.{Says};
 ghost use Rattle.tool_frame.specs.Files.{OfFile, KeepsShelf};
 ghost use Rattle.stapl_syntax.specs.Programs.{IsProgram};
 ghost use Rattle.stapl_syntax.specs.ProgramValues.{trees_of};
@@ -24,8 +24,7 @@ fn put_program<K: Sink>(
 ) -> Result<PrintStatus, NoAnswer>
     requires program { IsProgram program.now.text (trees_of program.now) }
     requires whole { IsWhole lines.old }
-    ensures says { Says K.written (TextAnswer program.now.text) ⊥ lines.old lines.new result }
-    ensures output { KeepsOutput K.faults K.is_last lines.old lines.new result }
+    ensures { Says K.Sink (TextAnswer program.now.text) ⊥ lines.old lines.new result }
 {
     match print_program(alloc, program) {
         Ok(text) => {
@@ -49,9 +48,8 @@ pub(crate) fn answer_file<S: Shelf, K: Sink>(
 ) -> Result<PrintStatus, NoAnswer>
     requires { IsWhole lines.old }
     ensures says { OfFile (S.told shelf.old) (Some path.now) (λ held.
-        Says K.written (HeldAnswer held) (IsSinkUntouched lines.old lines.new) lines.old lines.new result) }
-    ensures shelf { KeepsShelf S.told S.faults S.is_last (λ read. read ≡ path.now) shelf.old shelf.new result }
-    ensures output { KeepsOutput K.faults K.is_last lines.old lines.new result }
+        Says K.Sink (HeldAnswer held) (IsSilent lines.old lines.new) lines.old lines.new result) }
+    ensures shelf { KeepsShelf S.Shelf (λ read. read ≡ path.now) shelf.old shelf.new result }
 {
     match program_named(alloc, shelf, path) {
         Ok(program) => put_program(alloc, &program, lines),

@@ -2,8 +2,9 @@
 use Rattle.std.proofs.Common.{◌≡◌, ◌<◌, ℕ, List, length, Option, None, Some, IfSome, IsSomeAnd, Result, Ok, subst, sym}
 use Rattle.std.specs.Prelude.{IsErrAnd}
 use Rattle.tool_io.specs.declared.lines.Lines.{Lines}
+use Rattle.tool_io.specs.declared.outside.Sink.{Ghosts as SinkOf}
 use Rattle.tool_io.specs.Files.{file_of}
-use Rattle.tool_io.specs.Lines.{IsSinkUntouched, Puts, PutsFront}
+use Rattle.tool_io.specs.Lines.{IsSilent, Puts, PutsBroken}
 use Rattle.tool_frame.specs.declared.no_answer.NoAnswer.{NoAnswer}
 use Rattle.tool_frame.specs.declared.no_answer.NoAnswer.TheVariants.{Write}
 use Rattle.tool_frame.specs.Answers.{Says}
@@ -54,16 +55,16 @@ held_refused answers None refused fault = fault
 held_refused answers (Some bytes) refused fault = refused bytes fault
 
 -- The text that was read is no program: its refusal was put, or a front of it.
-module _ {K S : Type 0} {written : K → Option (List ℕ)} {old new : Lines K} {told : Option (List (List ℕ × List ℕ))} {path : List ℕ} (piece line : ℕ) (reason : Reason)
+module _ {K S : Type 0} {sink : SinkOf K} {old new : Lines K} {told : Option (List (List ℕ × List ℕ))} {path : List ℕ} (piece line : ℕ) (reason : Reason)
     (answers : List ℕ → List ℕ → S → Type 0) (status : S)
     (refused : (bytes : List ℕ) → FirstFault bytes piece line reason → answers bytes (refusal_line piece line reason) status)
     (reads : ReadsProgramFault told path piece line reason) where
-  pub refusal_failed : (r : Result S NoAnswer) → IsErrAnd r (λ e. e ≡ Write) → PutsFront written old (refusal_line piece line reason) new →
-      OfFile told (Some path) (λ held. Says written (λ text status. IsSomeAnd held (λ bytes. answers bytes text status)) (IsSinkUntouched old new) old new r)
+  pub refusal_failed : (r : Result S NoAnswer) → IsErrAnd r (λ e. e ≡ Write) → PutsBroken sink old (refusal_line piece line reason) new →
+      OfFile told (Some path) (λ held. Says sink (λ text status. IsSomeAnd held (λ bytes. answers bytes text status)) (IsSilent old new) old new r)
   refusal_failed r is front = of_file_as (λ held fault.
-      says_failed written (λ text status. IsSomeAnd held (λ bytes. answers bytes text status)) _ old new r is
+      says_failed sink (λ text status. IsSomeAnd held (λ bytes. answers bytes text status)) _ old new r is
       (said_front (refusal_line piece line reason) status (held_refused answers held refused fault) front)) reads
 
-  pub refusal_put : Puts written old (refusal_line piece line reason) new →
-      OfFile told (Some path) (λ held. Says written (λ text status. IsSomeAnd held (λ bytes. answers bytes text status)) (IsSinkUntouched old new) old new (Ok status))
+  pub refusal_put : Puts sink old (refusal_line piece line reason) new →
+      OfFile told (Some path) (λ held. Says sink (λ text status. IsSomeAnd held (λ bytes. answers bytes text status)) (IsSilent old new) old new (Ok status))
   refusal_put put = of_file_as (λ held fault. said_text (refusal_line piece line reason) (held_refused answers held refused fault) put) reads

@@ -1,6 +1,6 @@
 //! What `check` says of a program.
 ghost use Rattle.std.specs.Prelude.{◌≡◌, ◌≤◌, length, map, IfOk};
-ghost use Rattle.tool_io.specs.Lines.{IsWhole, HasPut, KeepsLines};
+ghost use Rattle.tool_io.specs.Lines.{IsWhole, HasPut};
 ghost use Rattle.stapl_lexer.specs.declared.token.Token.{Token};
 ghost use Rattle.stapl_lexer.specs.Pieces.{text_limit};
 ghost use Rattle.stapl_syntax.specs.Programs.{IsProgram};
@@ -123,9 +123,8 @@ fn put_count_of<K: Sink>(
     kind: StatementKind,
 ) -> Result<(), Failed>
     requires { IsWhole lines.old }
-    ensures put { HasPut K.written lines.old (labelled_count label.now kind (map stmt_tree program.now))
+    ensures { HasPut K.Sink lines.old (labelled_count label.now kind (map stmt_tree program.now))
         lines.new result }
-    ensures kept { KeepsLines K.faults K.is_last lines.old lines.new result }
 {
     put_size(lines, label, count_of(program, kind))
 }
@@ -133,8 +132,7 @@ fn put_count_of<K: Sink>(
 // Puts the counts of the blocks, and the end of the line.
 fn put_block_counts<K: Sink>(lines: &mut Lines<K>, program: &[Stmt]) -> Result<(), Failed>
     requires { IsWhole lines.old }
-    ensures put { HasPut K.written lines.old (block_counts (map stmt_tree program.now)) lines.new result }
-    ensures kept { KeepsLines K.faults K.is_last lines.old lines.new result }
+    ensures { HasPut K.Sink lines.old (block_counts (map stmt_tree program.now)) lines.new result }
 {
     put_count_of(lines, b" procedures ", program, StatementKind::Procedure)?;
     put_count_of(lines, b" data ", program, StatementKind::Data)?;
@@ -144,8 +142,7 @@ fn put_block_counts<K: Sink>(lines: &mut Lines<K>, program: &[Stmt]) -> Result<(
 // Puts the line of the counts.
 fn put_counts<K: Sink>(lines: &mut Lines<K>, program: &[Stmt]) -> Result<(), Failed>
     requires { IsWhole lines.old }
-    ensures put { HasPut K.written lines.old (counts_line (map stmt_tree program.now)) lines.new result }
-    ensures kept { KeepsLines K.faults K.is_last lines.old lines.new result }
+    ensures { HasPut K.Sink lines.old (counts_line (map stmt_tree program.now)) lines.new result }
 {
     put_size(lines, b"ok pieces ", program.len())?;
     put_count_of(lines, b" actions ", program, StatementKind::Action)?;
@@ -155,8 +152,7 @@ fn put_counts<K: Sink>(lines: &mut Lines<K>, program: &[Stmt]) -> Result<(), Fai
 // Puts a label and a check word.
 fn put_labelled_word<K: Sink>(lines: &mut Lines<K>, label: &[u8], word: u16) -> Result<(), Failed>
     requires { IsWhole lines.old }
-    ensures put { HasPut K.written lines.old (labelled_word label.now word) lines.new result }
-    ensures kept { KeepsLines K.faults K.is_last lines.old lines.new result }
+    ensures { HasPut K.Sink lines.old (labelled_word label.now word) lines.new result }
 {
     lines.put(label)?;
     put_hex(lines, u64::from(word), 16)
@@ -165,8 +161,7 @@ fn put_labelled_word<K: Sink>(lines: &mut Lines<K>, label: &[u8], word: u16) -> 
 // Puts the line of a good check word.
 fn put_good<K: Sink>(lines: &mut Lines<K>, word: u16) -> Result<(), Failed>
     requires { IsWhole lines.old }
-    ensures put { HasPut K.written lines.old (good_line word) lines.new result }
-    ensures kept { KeepsLines K.faults K.is_last lines.old lines.new result }
+    ensures { HasPut K.Sink lines.old (good_line word) lines.new result }
 {
     put_labelled_word(lines, b"crc good ", word)?;
     lines.put(b"\n")
@@ -175,8 +170,7 @@ fn put_good<K: Sink>(lines: &mut Lines<K>, word: u16) -> Result<(), Failed>
 // Puts the line of a check word that differs from that of the text.
 fn put_differing<K: Sink>(lines: &mut Lines<K>, stored: u16, computed: u16) -> Result<(), Failed>
     requires { IsWhole lines.old }
-    ensures put { HasPut K.written lines.old (differing_line stored computed) lines.new result }
-    ensures kept { KeepsLines K.faults K.is_last lines.old lines.new result }
+    ensures { HasPut K.Sink lines.old (differing_line stored computed) lines.new result }
 {
     put_labelled_word(lines, b"crc differs stored ", stored)?;
     put_labelled_word(lines, b" computed ", computed)?;
@@ -186,8 +180,7 @@ fn put_differing<K: Sink>(lines: &mut Lines<K>, stored: u16, computed: u16) -> R
 // Puts the line of a check word, by that of the text.
 fn put_compared<K: Sink>(lines: &mut Lines<K>, words: CheckWords) -> Result<(), Failed>
     requires { IsWhole lines.old }
-    ensures put { HasPut K.written lines.old (compared_line words) lines.new result }
-    ensures kept { KeepsLines K.faults K.is_last lines.old lines.new result }
+    ensures { HasPut K.Sink lines.old (compared_line words) lines.new result }
 {
     if words.stored == words.computed {
         put_good(lines, words.stored)
@@ -199,8 +192,7 @@ fn put_compared<K: Sink>(lines: &mut Lines<K>, words: CheckWords) -> Result<(), 
 // Puts the line of the check word.
 fn put_crc<K: Sink>(lines: &mut Lines<K>, words: Option<CheckWords>) -> Result<(), Failed>
     requires { IsWhole lines.old }
-    ensures put { HasPut K.written lines.old (crc_line words) lines.new result }
-    ensures kept { KeepsLines K.faults K.is_last lines.old lines.new result }
+    ensures { HasPut K.Sink lines.old (crc_line words) lines.new result }
 {
     match words {
         None => lines.put(b"crc none\n"),
@@ -217,8 +209,7 @@ pub fn put_check<K: Sink>(
     words: Option<CheckWords>,
 ) -> Result<(), Failed>
     requires { IsWhole lines.old }
-    ensures put { HasPut K.written lines.old (check_text (map stmt_tree program.now) words) lines.new result }
-    ensures kept { KeepsLines K.faults K.is_last lines.old lines.new result }
+    ensures { HasPut K.Sink lines.old (check_text (map stmt_tree program.now) words) lines.new result }
 {
     put_counts(lines, program)?;
     put_crc(lines, words)

@@ -1,7 +1,7 @@
 //! Explanations of words, a paragraph for each meaning of a word.
 ghost use Rattle.std.specs.Prelude.{◌≡◌, ◌==◌, ◌++◌, ◌<◌, [], map, length, slice_index_or, codes, IfOk};
 ghost use Rattle.std.specs.List.{flat_map, list_any};
-ghost use Rattle.tool_io.specs.Lines.{IsWhole, HasPut, KeepsLines};
+ghost use Rattle.tool_io.specs.Lines.{IsWhole, HasPut};
 ghost use Rattle.tool_io.specs.Texts.{word_line};
 ghost use Rattle.stapl_lexer.specs.Reasons.{reason_name};
 ghost use Rattle.program_reports.specs.Explanations.{is_about, paragraphs, word_paragraphs, reason_paragraphs};
@@ -76,9 +76,8 @@ pub fn reason_explanation(alloc: Global, reason: Reason) -> Result<Vec<&'static 
 fn put_paragraph<K: Sink>(lines: &mut Lines<K>, paragraphs: &[&str], i: usize) -> Result<(), Failed>
     requires whole { IsWhole lines.old }
     requires inside { i < length paragraphs.now }
-    ensures put { HasPut K.written lines.old
+    ensures { HasPut K.Sink lines.old
         (word_line (slice_index_or (map (λ line. line.now) paragraphs.now) i [])) lines.new result }
-    ensures kept { KeepsLines K.faults K.is_last lines.old lines.new result }
 {
     put_word_line(lines, paragraphs[i].as_bytes())
 }
@@ -88,9 +87,8 @@ fn put_paragraph<K: Sink>(lines: &mut Lines<K>, paragraphs: &[&str], i: usize) -
 /// `Failed` as of the sink.
 pub fn put_paragraphs<K: Sink>(lines: &mut Lines<K>, paragraphs: &[&str]) -> Result<(), Failed>
     requires { IsWhole lines.old }
-    ensures put { HasPut K.written lines.old (flat_map word_line (map (λ line. line.now) paragraphs.now))
+    ensures { HasPut K.Sink lines.old (flat_map word_line (map (λ line. line.now) paragraphs.now))
         lines.new result }
-    ensures kept { KeepsLines K.faults K.is_last lines.old lines.new result }
 {
     for i in 0..paragraphs.len() {
         put_paragraph(lines, paragraphs, i)?;

@@ -1,7 +1,7 @@
 //! What is answered about a play: by its board, and then by its program.
 ghost use Rattle.std.specs.Prelude.{◌≡◌, Some, map};
-ghost use Rattle.tool_io.specs.Lines.{IsWhole, IsSinkUntouched};
-ghost use Rattle.tool_frame.specs.Answers.{Says, KeepsOutput};
+ghost use Rattle.tool_io.specs.Lines.{IsWhole, IsSilent};
+ghost use Rattle.tool_frame.specs.Answers.{Says};
 ghost use Rattle.stapl_syntax.specs.Programs.{IsProgram};
 ghost use Rattle.stapl_syntax.specs.ProgramValues.{trees_of};
 ghost use Rattle.board_text.specs.Boards.{CanBeFitted};
@@ -34,9 +34,8 @@ fn put_verdict<K: Sink>(
     requires devices { CanBeFitted task.now.devices.now }
     requires rack { IsRack (map kind_of rack.old.items) }
     requires whole { IsWhole lines.old }
-    ensures says { Says K.written (ActionAnswer program.now.text (trees_of program.now) task.now.request.now
+    ensures { Says K.Sink (ActionAnswer program.now.text (trees_of program.now) task.now.request.now
         task.now.devices.now) ⊥ lines.old lines.new result }
-    ensures output { KeepsOutput K.faults K.is_last lines.old lines.new result }
 {
     let answer = answer_program(alloc, task, program, rack)?;
     lines.put(&answer.text)?;
@@ -55,11 +54,10 @@ fn answer_file<S: Shelf, K: Sink>(
     requires devices { CanBeFitted task.now.devices.now }
     requires rack { IsRack (map kind_of rack.old.items) }
     requires whole { IsWhole lines.old }
-    ensures says { OfFile (S.told shelf.old) (Some path.now) (λ held. Says K.written
-        (HeldAnswer task.now.request.now task.now.devices.now held) (IsSinkUntouched lines.old lines.new)
+    ensures says { OfFile (S.told shelf.old) (Some path.now) (λ held. Says K.Sink
+        (HeldAnswer task.now.request.now task.now.devices.now held) (IsSilent lines.old lines.new)
         lines.old lines.new result) }
-    ensures shelf { KeepsShelf S.told S.faults S.is_last (λ read. read ≡ path.now) shelf.old shelf.new result }
-    ensures output { KeepsOutput K.faults K.is_last lines.old lines.new result }
+    ensures shelf { KeepsShelf S.Shelf (λ read. read ≡ path.now) shelf.old shelf.new result }
 {
     match program_named(alloc, shelf, path) {
         Ok(program) => put_verdict(alloc, task, &program, rack, lines),
@@ -91,11 +89,10 @@ pub(crate) fn answer_play<S: Shelf, K: Sink>(
 ) -> Result<QuietStatus, NoAnswer>
     requires rack { IsRack (map kind_of rack.old.items) }
     requires whole { IsWhole lines.old }
-    ensures says { OfFiles (ArePlayFiles play.now) (S.told shelf.old) (λ contents. Says K.written
-        (RequestAnswer play.now.request contents) (IsSinkUntouched lines.old lines.new) lines.old lines.new result) }
-    ensures shelf { KeepsShelf S.told S.faults S.is_last (IsPlayFile (S.told shelf.old) play.now)
+    ensures says { OfFiles (ArePlayFiles play.now) (S.told shelf.old) (λ contents. Says K.Sink
+        (RequestAnswer play.now.request contents) (IsSilent lines.old lines.new) lines.old lines.new result) }
+    ensures shelf { KeepsShelf S.Shelf (IsPlayFile (S.told shelf.old) play.now)
         shelf.old shelf.new result }
-    ensures output { KeepsOutput K.faults K.is_last lines.old lines.new result }
 {
     match board_named(alloc, shelf, play.board.as_str()) {
         Ok(devices) => {

@@ -2,7 +2,9 @@
 use Rattle.std.proofs.Common.{◌≡◌, ℕ, List, Option, Some, Result, Ok, Err, refl, sym, subst}
 use Rattle.std.specs.Prelude.{IsErrAnd}
 use Rattle.tool_io.specs.declared.lines.Lines.{Lines}
-use Rattle.tool_io.specs.Lines.{IsSinkUntouched, Puts, PutsFront}
+use Rattle.tool_io.specs.declared.outside.Sink.{Ghosts as SinkOf}
+use Rattle.tool_io.specs.declared.outside.Shelf.{Ghosts as ShelfOf}
+use Rattle.tool_io.specs.Lines.{IsSilent, Puts, PutsBroken}
 use Rattle.dev_card.specs.declared.desc.Desc.{Desc}
 use Rattle.board_text.specs.declared.reason.BoardReason.{BoardReason}
 use Rattle.tool_frame.specs.declared.no_answer.NoAnswer.{NoAnswer}
@@ -35,9 +37,9 @@ pub of_no_request : (told : Option (List (List ℕ × List ℕ))) {words : List 
 of_no_request told {words = words} none f = of_none_asked (Asks words) told (λ named asks. none (record { files = named; run = asks.0 }) asks.1) f
 
 -- a file of the request that was reached is one of the words
-pub reached_by : {S : Type 0} {faults : S → List ℕ → ℕ} {is_last : S → List ℕ → Type 0} {before after : S} {told : Option (List (List ℕ × List ℕ))} {words : List (List ℕ)}
-    {request : Request} → IsRequest words request → HasReadCause faults is_last (IsReached told request.files) before after →
-    HasReadCause faults is_last (IsAskedAndReached (Asks words) told) before after
+pub reached_by : {S : Type 0} {shelf : ShelfOf S} {before after : S} {told : Option (List (List ℕ × List ℕ))} {words : List (List ℕ)}
+    {request : Request} → IsRequest words request → HasReadCause shelf (IsReached told request.files) before after →
+    HasReadCause shelf (IsAskedAndReached (Asks words) told) before after
 reached_by {words = words} {request = request} asks c = reached_asked (Asks words) (request.run, asks) c
 
 in_told : (files : List (List ℕ × List ℕ)) (words : List (List ℕ)) (contents : Contents) {text : List ℕ} {status : RewriteStatus} →
@@ -55,44 +57,44 @@ told_answer files words contents read = record { to = λ text status a. in_told 
 
 -- ---- what is answered to a request, and to words
 
-abbrev pub RequestSays : {K : Type 0} → (K → Option (List ℕ)) → Option (List (List ℕ × List ℕ)) → Request → Lines K → Lines K → Result RewriteStatus NoAnswer → Type 0
-RequestSays written told request old new r = OfContents told request.files (λ contents. Says written (RequestAnswer request contents) (IsSinkUntouched old new) old new r)
+abbrev pub RequestSays : {K : Type 0} → SinkOf K → Option (List (List ℕ × List ℕ)) → Request → Lines K → Lines K → Result RewriteStatus NoAnswer → Type 0
+RequestSays sink told request old new r = OfContents told request.files (λ contents. Says sink (RequestAnswer request contents) (IsSilent old new) old new r)
 
 -- the board is right
-pub request_of_file : {K : Type 0} (written : K → Option (List ℕ)) (old new : Lines K) (told : Option (List (List ℕ × List ℕ))) (request : Request)
+pub request_of_file : {K : Type 0} (sink : SinkOf K) (old new : Lines K) (told : Option (List (List ℕ × List ℕ))) (request : Request)
     (r : Result RewriteStatus NoAnswer) (devices : List Desc) → ReadsBoard told request.files.board devices →
-    OfFile told (Some request.files.file) (λ held. Says written (FileAnswer devices request.run held) (IsSinkUntouched old new) old new r) →
-    RequestSays written told request old new r
-request_of_file written old new told request r devices reads o =
+    OfFile told (Some request.files.file) (λ held. Says sink (FileAnswer devices request.run held) (IsSilent old new) old new r) →
+    RequestSays sink told request old new r
+request_of_file sink old new told request r devices reads o =
     of_both told request.files reads.held reads.read o (λ program.
-    says_within written _ _ old new r (file_within request devices reads.held program reads.holds) (λ u. u))
+    says_within sink _ _ old new r (file_within request devices reads.held program reads.holds) (λ u. u))
 
 -- the words are this request
-pub words_of_request : {K : Type 0} (written : K → Option (List ℕ)) (old new : Lines K) (told : Option (List (List ℕ × List ℕ))) {words : List (List ℕ)} (request : Request)
-    (r : Result RewriteStatus NoAnswer) → IsRequest words request → RequestSays written told request old new r →
-    OfAsked (Asks words) told (λ contents. Says written (WordsAnswer words (λ request. contents)) (IsSinkUntouched old new) old new r)
-words_of_request written old new told {words = words} request r asks o =
+pub words_of_request : {K : Type 0} (sink : SinkOf K) (old new : Lines K) (told : Option (List (List ℕ × List ℕ))) {words : List (List ℕ)} (request : Request)
+    (r : Result RewriteStatus NoAnswer) → IsRequest words request → RequestSays sink told request old new r →
+    OfAsked (Asks words) told (λ contents. Says sink (WordsAnswer words (λ request. contents)) (IsSilent old new) old new r)
+words_of_request sink old new told {words = words} request r asks o =
     of_asked (Asks words) (one_asked words) told (request.run, asks) o (λ contents.
-    says_within written _ _ old new r (record { to = λ text status a. asked request text status asks a }) (λ u. u))
+    says_within sink _ _ old new r (record { to = λ text status a. asked request text status asks a }) (λ u. u))
 
 -- the board is refused
-module _ {K : Type 0} {written : K → Option (List ℕ)} {old new : Lines K} (told : Option (List (List ℕ × List ℕ))) (request : Request) (line : ℕ) (reason : BoardReason)
+module _ {K : Type 0} {sink : SinkOf K} {old new : Lines K} (told : Option (List (List ℕ × List ℕ))) (request : Request) (line : ℕ) (reason : BoardReason)
     (reads : ReadsBoardFault told request.files.board line reason) where
-  pub board_failed : (r : Result RewriteStatus NoAnswer) → IsErrAnd r (λ e. e ≡ Write) → PutsFront written old (board_refusal_line line reason) new →
-      RequestSays written told request old new r
+  pub board_failed : (r : Result RewriteStatus NoAnswer) → IsErrAnd r (λ e. e ≡ Write) → PutsBroken sink old (board_refusal_line line reason) new →
+      RequestSays sink told request old new r
   board_failed r is front = of_board told request.files reads.held reads.read (λ program.
-      says_failed written (RequestAnswer request (both reads.held program)) _ old new r is
+      says_failed sink (RequestAnswer request (both reads.held program)) _ old new r is
       (said_front (board_refusal_line line reason) (BoardRefused line reason) (board_refused line reason reads.holds) front))
 
-  pub board_is_refused : Puts written old (board_refusal_line line reason) new → RequestSays written told request old new (Ok (BoardRefused line reason))
+  pub board_is_refused : Puts sink old (board_refusal_line line reason) new → RequestSays sink told request old new (Ok (BoardRefused line reason))
   board_is_refused put = of_board told request.files reads.held reads.read (λ program.
       said_text (board_refusal_line line reason) (board_refused line reason reads.holds) put)
 
 -- it could not be read, or there was no memory
-pub no_board : {K : Type 0} (written : K → Option (List ℕ)) (lines : Lines K) (told : Option (List (List ℕ × List ℕ))) (request : Request) →
-    RequestSays written told request lines lines (Err Read)
-no_board written lines told request = of_any_contents told request.files (λ contents. refl)
+pub no_board : {K : Type 0} (sink : SinkOf K) (lines : Lines K) (told : Option (List (List ℕ × List ℕ))) (request : Request) →
+    RequestSays sink told request lines lines (Err Read)
+no_board sink lines told request = of_any_contents told request.files (λ contents. (refl, refl))
 
-pub no_board_memory : {K : Type 0} (written : K → Option (List ℕ)) (lines : Lines K) (told : Option (List (List ℕ × List ℕ))) (request : Request)
-    (r : Result RewriteStatus NoAnswer) → IsErrAnd r (λ e. e ≡ Memory) → RequestSays written told request lines lines r
-no_board_memory written lines told request r is = of_any_contents told request.files (λ contents. says_no_memory written _ _ lines lines r is refl)
+pub no_board_memory : {K : Type 0} (sink : SinkOf K) (lines : Lines K) (told : Option (List (List ℕ × List ℕ))) (request : Request)
+    (r : Result RewriteStatus NoAnswer) → IsErrAnd r (λ e. e ≡ Memory) → RequestSays sink told request lines lines r
+no_board_memory sink lines told request r is = of_any_contents told request.files (λ contents. says_no_memory sink _ _ lines lines r is (refl, refl))

@@ -1,7 +1,7 @@
 //! A program for a run of devices of a board.
 ghost use Rattle.std.specs.Prelude.{◌≡◌, Some};
-ghost use Rattle.tool_io.specs.Lines.{IsWhole, IsSinkUntouched};
-ghost use Rattle.tool_frame.specs.Answers.{Says, KeepsOutput};
+ghost use Rattle.tool_io.specs.Lines.{IsWhole, IsSilent};
+ghost use Rattle.tool_frame.specs.Answers.{Says};
 ghost use Rattle.stapl_syntax.specs.Programs.{IsProgram};
 ghost use Rattle.stapl_syntax.specs.ProgramValues.{trees_of};
 ghost use Rattle.board_text.specs.Boards.{CanBeFitted};
@@ -32,8 +32,7 @@ fn put_rewritten<K: Sink>(
     requires devices { CanBeFitted devices.now }
     requires run { IsRun run }
     requires whole { IsWhole lines.old }
-    ensures says { Says K.written (ProgramAnswer devices.now run program.now.text) ⊥ lines.old lines.new result }
-    ensures output { KeepsOutput K.faults K.is_last lines.old lines.new result }
+    ensures { Says K.Sink (ProgramAnswer devices.now run program.now.text) ⊥ lines.old lines.new result }
 {
     if run.last as usize > devices.len() {
         lines.put(b"R place\n")?;
@@ -68,10 +67,9 @@ pub(crate) fn answer_file<S: Shelf, K: Sink>(
     requires devices { CanBeFitted devices.now }
     requires run { IsRun run }
     requires whole { IsWhole lines.old }
-    ensures says { OfFile (S.told shelf.old) (Some path.now) (λ held. Says K.written
-        (FileAnswer devices.now run held) (IsSinkUntouched lines.old lines.new) lines.old lines.new result) }
-    ensures shelf { KeepsShelf S.told S.faults S.is_last (λ read. read ≡ path.now) shelf.old shelf.new result }
-    ensures output { KeepsOutput K.faults K.is_last lines.old lines.new result }
+    ensures says { OfFile (S.told shelf.old) (Some path.now) (λ held. Says K.Sink
+        (FileAnswer devices.now run held) (IsSilent lines.old lines.new) lines.old lines.new result) }
+    ensures shelf { KeepsShelf S.Shelf (λ read. read ≡ path.now) shelf.old shelf.new result }
 {
     match program_named(alloc, shelf, path) {
         Ok(program) => put_rewritten(alloc, &program, devices, run, lines),

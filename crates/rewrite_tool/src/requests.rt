@@ -1,6 +1,6 @@
 //! A request: a board, and the program of a file for a run of its devices.
-ghost use Rattle.tool_io.specs.Lines.{IsWhole, IsSinkUntouched};
-ghost use Rattle.tool_frame.specs.Answers.{Says, KeepsOutput};
+ghost use Rattle.tool_io.specs.Lines.{IsWhole, IsSilent};
+ghost use Rattle.tool_frame.specs.Answers.{Says};
 ghost use Rattle.tool_frame.specs.Files.{KeepsShelf};
 ghost use Rattle.named_files.specs.Contents.{OfContents, IsReached};
 ghost use Rattle.rewrite_tool.specs.Words.{IsRun};
@@ -24,12 +24,11 @@ pub(crate) fn answer_request<S: Shelf, K: Sink>(
 ) -> Result<RewriteStatus, NoAnswer>
     requires run { IsRun named.run }
     requires whole { IsWhole lines.old }
-    ensures says { OfContents (S.told shelf.old) (request_of named.entry).files (λ contents. Says K.written
-        (RequestAnswer (request_of named.entry) contents) (IsSinkUntouched lines.old lines.new)
+    ensures says { OfContents (S.told shelf.old) (request_of named.entry).files (λ contents. Says K.Sink
+        (RequestAnswer (request_of named.entry) contents) (IsSilent lines.old lines.new)
         lines.old lines.new result) }
-    ensures shelf { KeepsShelf S.told S.faults S.is_last (IsReached (S.told shelf.old) (request_of named.entry).files)
+    ensures shelf { KeepsShelf S.Shelf (IsReached (S.told shelf.old) (request_of named.entry).files)
         shelf.old shelf.new result }
-    ensures output { KeepsOutput K.faults K.is_last lines.old lines.new result }
 {
     match board_named(alloc, shelf, named.board) {
         Ok(devices) => answer_file(alloc, named.program, &devices, named.run, shelf, lines),

@@ -1,7 +1,6 @@
 //! The tool.
 ghost use Rattle.std.specs.Prelude.{map, string_bytes};
 ghost use Rattle.tool_io.specs.Lines.{IsWhole};
-ghost use Rattle.tool_frame.specs.Answers.{KeepsOutput};
 ghost use Rattle.tool_frame.specs.Files.{OfFiles, KeepsShelf};
 ghost use Rattle.tool_frame.specs.Frame.{SaysAndLeaves};
 ghost use Rattle.named_files.specs.Contents.{NamesBoth, both_of, IsAskedAndReached};

@@ -2,9 +2,11 @@
 use Rattle.std.proofs.Common.{◌≡◌, ℕ, List, [], Option, Result, Ok, Err, ap, sym, ◌∙◌}
 use Rattle.std.specs.Prelude.{IsErrAnd, IfOk}
 use Rattle.tool_io.specs.declared.lines.Lines.{Lines}
-use Rattle.tool_io.specs.Bytes.{then_bytes}
-use Rattle.tool_io.specs.Lines.{gathered, taken, IsSinkUntouched, Puts, PutsFront}
-use Rattle.tool_io.proofs.PutLemmas.{all_written, front_written, finish_front}
+use Rattle.tool_io.specs.Causes.{HasRisen, NeverFalls}
+use Rattle.tool_io.specs.Lines.{gathered, sink_of, taken, IsSilent, Puts, PutsBroken}
+use Rattle.tool_io.specs.declared.outside.Sink.{Ghosts as SinkOf}
+use Rattle.tool_io.proofs.CauseLemmas.{kept_start, kept_then, rose_after}
+use Rattle.tool_io.proofs.PutLemmas.{puts_end, front_end, all_written, front_written}
 use Rattle.tool_frame.specs.declared.no_answer.NoAnswer.{NoAnswer}
 use Rattle.tool_frame.specs.declared.no_answer.NoAnswer.TheVariants.{Read, Write, Memory}
 use Rattle.tool_frame.specs.Answers.{Said, SaidFront, Says, Wrote, WroteFront, HasWritten}
@@ -17,12 +19,12 @@ on_ok (Err e) f p = tt
 pub record IsWithin {S : Type 0} (A B : List ℕ → S → Type 0) : Type 0 where
   pub to : (text : List ℕ) (status : S) → A text status → B text status
 
-pub said_within : {K S : Type 0} {written : K → Option (List ℕ)} {A B : List ℕ → S → Type 0} {old new : Lines K} {status : S} → IsWithin A B →
-    Said written A old new status → Said written B old new status
+pub said_within : {K S : Type 0} {sink : SinkOf K} {A B : List ℕ → S → Type 0} {old new : Lines K} {status : S} → IsWithin A B →
+    Said sink A old new status → Said sink B old new status
 said_within {status = status} w p = record { text = p.text; answer = w.to p.text status p.answer; puts = p.puts }
 
-pub front_within : {K S : Type 0} {written : K → Option (List ℕ)} {A B : List ℕ → S → Type 0} {old new : Lines K} → IsWithin A B →
-    SaidFront written A old new → SaidFront written B old new
+pub front_within : {K S : Type 0} {sink : SinkOf K} {A B : List ℕ → S → Type 0} {old new : Lines K} → IsWithin A B →
+    SaidFront sink A old new → SaidFront sink B old new
 front_within w p = record { text = p.text; status = p.status; answer = w.to p.text p.status p.answer; puts = p.puts }
 
 pub wrote_within : {S : Type 0} {A B : List ℕ → S → Type 0} {before after : Option (List ℕ)} {status : S} → IsWithin A B → Wrote A before after status →
@@ -33,53 +35,70 @@ pub front_within_written : {S : Type 0} {A B : List ℕ → S → Type 0} {befor
 front_within_written w p = record { text = p.text; status = p.status; answer = w.to p.text p.status p.answer; front = p.front }
 
 -- the same answers under another name
-pub says_within : {K S : Type 0} (written : K → Option (List ℕ)) (A B : List ℕ → S → Type 0) {R Q : Type 0} (old new : Lines K) (r : Result S NoAnswer) →
-    IsWithin A B → (R → Q) → Says written A R old new r → Says written B Q old new r
-says_within written A B old new (Ok status) w read says = said_within w says
-says_within written A B old new (Err Read) w read says = read says
-says_within written A B old new (Err Write) w read says = front_within w says
-says_within written A B old new (Err Memory) w read says = says
+pub says_within : {K S : Type 0} (sink : SinkOf K) (A B : List ℕ → S → Type 0) {R Q : Type 0} (old new : Lines K) (r : Result S NoAnswer) →
+    IsWithin A B → (R → Q) → Says sink A R old new r → Says sink B Q old new r
+says_within sink A B old new (Ok status) w read says = said_within w says
+says_within sink A B old new (Err Read) w read says = read says
+says_within sink A B old new (Err Write) w read says = front_within w says
+says_within sink A B old new (Err Memory) w read says = says
 
 -- A text was put, or a front of it.
-pub said_text : {K S : Type 0} {written : K → Option (List ℕ)} {A : List ℕ → S → Type 0} {old new : Lines K} {status : S} (text : List ℕ) → A text status →
-    Puts written old text new → Said written A old new status
+pub said_text : {K S : Type 0} {sink : SinkOf K} {A : List ℕ → S → Type 0} {old new : Lines K} {status : S} (text : List ℕ) → A text status →
+    Puts sink old text new → Said sink A old new status
 said_text text a p = record { text = text; answer = a; puts = p }
 
-pub said_front : {K S : Type 0} {written : K → Option (List ℕ)} {A : List ℕ → S → Type 0} {old new : Lines K} (text : List ℕ) (status : S) → A text status →
-    PutsFront written old text new → SaidFront written A old new
-said_front text status a p = record { text = text; status = status; answer = a; puts = p }
+pub said_front : {K S : Type 0} {sink : SinkOf K} {A : List ℕ → S → Type 0} {old new : Lines K} (text : List ℕ) (status : S) → A text status →
+    PutsBroken sink old text new → SaidFront sink A old new
+said_front text status a p = record { text = text; status = status; answer = a; puts = p.put }
 
 -- a write fault at the exit of a `?`
-pub says_failed : {K S : Type 0} (written : K → Option (List ℕ)) (A : List ℕ → S → Type 0) (R : Type 0) (old new : Lines K) (r : Result S NoAnswer) →
-    IsErrAnd r (λ e. e ≡ Write) → SaidFront written A old new → Says written A R old new r
-says_failed written A R old new (Ok status) is front = absurd is
-says_failed written A R old new (Err e) is front = rw is front
+pub says_failed : {K S : Type 0} (sink : SinkOf K) (A : List ℕ → S → Type 0) (R : Type 0) (old new : Lines K) (r : Result S NoAnswer) →
+    IsErrAnd r (λ e. e ≡ Write) → SaidFront sink A old new → Says sink A R old new r
+says_failed sink A R old new (Ok status) is front = absurd is
+says_failed sink A R old new (Err e) is front = rw is front
 
 -- and want of memory
-pub says_no_memory : {K S : Type 0} (written : K → Option (List ℕ)) (A : List ℕ → S → Type 0) (R : Type 0) (old new : Lines K) (r : Result S NoAnswer) →
-    IsErrAnd r (λ e. e ≡ Memory) → IsSinkUntouched old new → Says written A R old new r
-says_no_memory written A R old new (Ok status) is same = absurd is
-says_no_memory written A R old new (Err e) is same = rw is same
+pub says_no_memory : {K S : Type 0} (sink : SinkOf K) (A : List ℕ → S → Type 0) (R : Type 0) (old new : Lines K) (r : Result S NoAnswer) →
+    IsErrAnd r (λ e. e ≡ Memory) → IsSilent old new → Says sink A R old new r
+says_no_memory sink A R old new (Ok status) is same = absurd is
+says_no_memory sink A R old new (Err e) is same = rw is same
 
 -- From new lines on, in words of the sink alone. The lines were finished, or `finish` failed, or a call failed before it.
-module _ {K S : Type 0} {written : K → Option (List ℕ)} {A : List ℕ → S → Type 0} {old : Lines K} {before : Option (List ℕ)} (empty : gathered old ≡ [])
-    (first : before ≡ taken written old) where
-  pub wrote_all : {new : Lines K} {status : S} {after : Option (List ℕ)} → Said written A old new status →
-      after ≡ then_bytes (taken written new) (gathered new) → Wrote A before after status
-  wrote_all p e = record { text = p.text; answer = p.answer; written = rw first (all_written empty p.puts e) }
+module _ {K S : Type 0} {sink : SinkOf K} {A : List ℕ → S → Type 0} {old : Lines K} {before : Option (List ℕ)} (empty : gathered old ≡ [])
+    (first : before ≡ taken sink old) where
+  pub wrote_all : {new done : Lines K} {status : S} {after : Option (List ℕ)} → after ≡ taken sink done → Said sink A old new status →
+      Puts sink new [] done → gathered done ≡ [] → Wrote A before after status
+  wrote_all last p f none = record { text = p.text; answer = p.answer; written = rw (first, last) (all_written empty (puts_end p.puts f) none) }
 
   pub unfinished : {new torn : Lines K} {status : S} {after : Option (List ℕ)} (r : Result S NoAnswer) → IsErrAnd r (λ e. e ≡ Write) →
-      after ≡ taken written torn → Said written A old new status → PutsFront written new [] torn → HasWritten A before after r
+      after ≡ taken sink torn → Said sink A old new status → PutsBroken sink new [] torn → HasWritten A before after r
   unfinished (Ok other) is last p f = absurd is
   unfinished {status = status} (Err e) is last p f =
-      rw is (record { text = p.text; status = status; answer = p.answer; front = rw (first, last) (front_written empty (finish_front p.puts f)) })
+      rw is (record { text = p.text; status = status; answer = p.answer; front = rw (first, last) (front_written empty (front_end p.puts f).put) })
 
 -- no answer, whatever the cause
-pub not_answered : {K S : Type 0} (written : K → Option (List ℕ)) (A : List ℕ → S → Type 0) {R : Type 0} (old new : Lines K) {before after : Option (List ℕ)} (e : NoAnswer)
-    (r : Result S NoAnswer) → IsErrAnd r (λ x. x ≡ e) → gathered old ≡ [] → before ≡ taken written old → after ≡ taken written new →
-    (R → IsSinkUntouched old new) → Says written A R old new (Err e) → HasWritten A before after r
-not_answered written A old new e (Ok status) is empty first last same says = absurd is
-not_answered written A old new Read (Err x) is empty first last same says = rw is (last ∙ ap written (same says) ∙ sym first)
-not_answered written A old new Write (Err x) is empty first last same says =
+pub not_answered : {K S : Type 0} (sink : SinkOf K) (A : List ℕ → S → Type 0) {R : Type 0} (old new : Lines K) {before after : Option (List ℕ)} (e : NoAnswer)
+    (r : Result S NoAnswer) → IsErrAnd r (λ x. x ≡ e) → gathered old ≡ [] → before ≡ taken sink old → after ≡ taken sink new →
+    (R → IsSilent old new) → Says sink A R old new (Err e) → HasWritten A before after r
+not_answered sink A old new e (Ok status) is empty first last same says = absurd is
+not_answered sink A old new Read (Err x) is empty first last same says = rw is (last ∙ ap sink.written (same says).1 ∙ sym first)
+not_answered sink A old new Write (Err x) is empty first last same says =
     rw is (record { text = says.text; status = says.status; answer = says.answer; front = rw (first, last) (front_written empty says.puts) })
-not_answered written A old new Memory (Err x) is empty first last same says = rw is (last ∙ ap written says ∙ sym first)
+not_answered sink A old new Memory (Err x) is empty first last same says = rw is (last ∙ ap sink.written says.1 ∙ sym first)
+
+-- the count of the sink under lines that nothing has reached
+silent_kept : {K : Type 0} (sink : SinkOf K) (old new : Lines K) → IsSilent old new → NeverFalls sink.faults sink.is_last (sink_of old) (sink_of new)
+silent_kept sink old new same = rw same.1 (kept_start _ _)
+
+-- and under lines into which no answer was put
+pub not_answered_kept : {K S : Type 0} (sink : SinkOf K) (A : List ℕ → S → Type 0) {R : Type 0} (old new : Lines K) (e : NoAnswer) → (R → IsSilent old new) →
+    Says sink A R old new (Err e) → NeverFalls sink.faults sink.is_last (sink_of old) (sink_of new)
+not_answered_kept sink A old new Read same says = silent_kept sink old new (same says)
+not_answered_kept sink A old new Write same says = says.puts.kept
+not_answered_kept sink A old new Memory same says = silent_kept sink old new says
+
+pub not_answered_cause : {K S : Type 0} (sink : SinkOf K) (A : List ℕ → S → Type 0) (R : Type 0) (old new : Lines K) (e : NoAnswer) → Says sink A R old new (Err e) →
+    e ≡ Write → HasRisen sink.faults sink.is_last (sink_of old) (sink_of new)
+not_answered_cause sink A R old new Read says is = absurd cc
+not_answered_cause sink A R old new Write says is = says.puts.rose
+not_answered_cause sink A R old new Memory says is = absurd cc

@@ -1,6 +1,7 @@
 -- On the contents of files that are named.
 use Rattle.std.proofs.Common.{◌≡◌, ◌∙◌, ℕ, List, [], ◌∷◌, map, Option, None, Some, IfSome, ap, sym, subst}
 use Rattle.std.specs.Prelude.{Result}
+use Rattle.tool_io.specs.declared.outside.Shelf.{Ghosts as ShelfOf}
 use Rattle.tool_frame.specs.declared.no_answer.NoAnswer.{NoAnswer}
 use Rattle.tool_frame.specs.Files.{file_named, OfFile, OfFiles, NamesOne, KeepsShelf}
 
@@ -30,9 +31,8 @@ pub of_no_file : (told : Option (List (List ℕ × List ℕ))) (IsNamed : List �
 of_no_file told IsNamed none q = record { contents = []; read = λ named n. absurd (none n.path n.is); holds = q }
 
 -- the file that was reached is the one that is named
-pub shelf_of_one : {S T : Type 0} {told : S → Option (List (List ℕ × List ℕ))} {faults : S → List ℕ → ℕ} {is_last : S → List ℕ → Type 0} {before after : S}
-    {r : Result T NoAnswer} (IsNamed : List ℕ → Type 0) (path : List ℕ) → IsNamed path → KeepsShelf told faults is_last (λ read. read ≡ path) before after r →
-    KeepsShelf told faults is_last IsNamed before after r
+pub shelf_of_one : {S T : Type 0} {shelf : ShelfOf S} {before after : S} {r : Result T NoAnswer} (IsNamed : List ℕ → Type 0) (path : List ℕ) →
+    IsNamed path → KeepsShelf shelf (λ read. read ≡ path) before after r → KeepsShelf shelf IsNamed before after r
 shelf_of_one IsNamed path named kept = record {
   keeps = kept.keeps;
   later = kept.later;

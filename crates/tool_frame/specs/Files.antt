@@ -2,6 +2,7 @@
 use Rattle.std.specs.Prelude.{◌≡◌, ℕ, List, [], ◌∷◌, map, Option, None, Some, IfSome, Result, IsErrOf}
 use Rattle.tool_io.specs.Causes.{HasRisenAt, NoneFalls}
 use Rattle.tool_io.specs.Files.{file_of}
+use Rattle.tool_io.specs.declared.outside.Shelf.{Ghosts as ShelfOf}
 use Rattle.tool_frame.specs.declared.no_answer.NoAnswer.{NoAnswer}
 use Rattle.tool_frame.specs.declared.no_answer.NoAnswer.TheVariants.{Read}
 
@@ -46,14 +47,13 @@ second_of [] = None
 second_of (held ∷ others) = first_of others
 
 -- A file could not be read, which was reached: its count rose, or stands at its last value.
-pub record HasReadCause {S : Type 0} (faults : S → List ℕ → ℕ) (is_last : S → List ℕ → Type 0) (reached : List ℕ → Type 0) (before after : S) : Type 0 where
+pub record HasReadCause {S : Type 0} (shelf : ShelfOf S) (reached : List ℕ → Type 0) (before after : S) : Type 0 where
   pub path : List ℕ
   pub is_reached : reached path
-  pub rose : HasRisenAt faults is_last path before after
+  pub rose : HasRisenAt shelf.faults shelf.is_last path before after
 
 -- The store tells the same files, and no count fell; and a read fault has its cause in a file that was reached.
-pub record KeepsShelf {S T : Type 0} (told : S → Option (List (List ℕ × List ℕ))) (faults : S → List ℕ → ℕ) (is_last : S → List ℕ → Type 0)
-    (reached : List ℕ → Type 0) (before after : S) (result : Result T NoAnswer) : Type 0 where
-  pub keeps : told after ≡ told before
-  pub later : NoneFalls faults is_last before after
-  pub read : IsErrOf result Read → HasReadCause faults is_last reached before after
+pub record KeepsShelf {S T : Type 0} (shelf : ShelfOf S) (reached : List ℕ → Type 0) (before after : S) (result : Result T NoAnswer) : Type 0 where
+  pub keeps : shelf.told after ≡ shelf.told before
+  pub later : NoneFalls shelf.faults shelf.is_last before after
+  pub read : IsErrOf result Read → HasReadCause shelf reached before after

@@ -48,9 +48,9 @@ pub fn run_command<T: Tool, S: Shelf, K: Sink>(
     ensures ran { HasRunCommand T.help_text T.version_text (map string_bytes words.now) (S.told shelf.old)
         (T.names (map string_bytes words.now)) (T.answers (map string_bytes words.now))
         (T.leaves (map string_bytes words.now)) (K.written out.old) (K.written out.new) loan.old loan.new result }
-    ensures shelf { KeepsShelf S.told S.faults S.is_last (T.reached (S.told shelf.old) (map string_bytes words.now))
+    ensures shelf { KeepsShelf S.Shelf (T.reached (S.told shelf.old) (map string_bytes words.now))
         shelf.old shelf.new result }
-    ensures sink { KeepsCount K.faults K.is_last out.old out.new result }
+    ensures sink { KeepsCount K.Sink out.old out.new result }
 {
     match text_asked(words, tool.help(), tool.version()) {
         Some(text) => {
@@ -81,7 +81,7 @@ pub fn run_program<T: Tool, S: Shelf, K: Sink>(
         (T.leaves (map string_bytes words.now)) (K.written out.old) (K.written out.new) loan.old loan.new) result }
 
     // 9 only if the count rose of a file that was reached, and 10 only if that of the sink did.
-    ensures read { result ≡ 9 → HasReadCause S.faults S.is_last
+    ensures read { result ≡ 9 → HasReadCause S.Shelf
         (T.reached (S.told shelf.old) (map string_bytes words.now)) shelf.old shelf.new }
     ensures write { result ≡ 10 → HasRisen K.faults K.is_last out.old out.new }
 

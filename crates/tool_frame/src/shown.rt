@@ -32,7 +32,7 @@ pub fn text_asked<'a>(words: &[String], help: &'a [u8], version: &'a [u8]) -> Op
 /// Writes a text and nothing else.
 ///
 /// `Failed` as of the sink. Then a front of the text is written.
-#[tactic(auto, using(tool_io::proofs::PutLemmas::front_written, tool_io::proofs::PutLemmas::finish_front))]
+#[tactic(auto, using(tool_io::proofs::PutLemmas::front_written, tool_io::proofs::PutLemmas::front_end, tool_io::proofs::PutLemmas::all_written, tool_io::proofs::PutLemmas::puts_end))]
 pub fn write_text<K: Sink>(out: &mut K, text: &[u8]) -> Result<(), Failed>
     ensures ok { OnOk result (K.written out.new ≡ then_bytes (K.written out.old) text.now) }
     ensures front { OnErr result (MovesFront (K.written out.old) text.now (K.written out.new)) }

@@ -3,7 +3,6 @@ ghost use Rattle.std.specs.Prelude.{◌≡◌, ℕ, List, [], Option, Result, Ok
 ghost use Rattle.tool_io.specs.Lines.{IsWhole, gathered};
 ghost use Rattle.tool_frame.specs.declared.no_answer.NoAnswer.{NoAnswer as Cause};
 ghost use Rattle.tool_frame.specs.declared.no_answer.NoAnswer.TheVariants.{Write};
-ghost use Rattle.tool_frame.specs.Answers.{KeepsOutput};
 ghost use Rattle.tool_frame.specs.Files.{OfFiles, KeepsShelf};
 ghost use Rattle.tool_frame.specs.Frame.{SaysAndLeaves, WritesAndLeaves, KeepsCount, IsNoFaultCode};
 
@@ -73,11 +72,10 @@ pub trait Tool {
         requires whole { IsWhole lines.old }
         requires empty { gathered lines.old ≡ [] }
         ensures answers { OfFiles (names (map string_bytes words.now)) (S.told shelf.old) (λ contents. SaysAndLeaves
-            K.written (answers (map string_bytes words.now) contents) (leaves (map string_bytes words.now) contents)
+            K.Sink (answers (map string_bytes words.now) contents) (leaves (map string_bytes words.now) contents)
             lines.old lines.new loan.old loan.new result) }
-        ensures shelf { KeepsShelf S.told S.faults S.is_last (reached (S.told shelf.old) (map string_bytes words.now))
-            shelf.old shelf.new result }
-        ensures output { KeepsOutput K.faults K.is_last lines.old lines.new result };
+        ensures shelf { KeepsShelf S.Shelf (reached (S.told shelf.old) (map string_bytes words.now))
+            shelf.old shelf.new result };
 
     /// What an answer leaves may be left after a write fault too, since the answer was put before.
     ghost leaves_at_write_fault: { (words : List (List ℕ)) (contents : List (Option (List ℕ)))
@@ -104,9 +102,9 @@ pub fn run<T: Tool, S: Shelf, K: Sink>(
     ensures ran { OfFiles (T.names (map string_bytes words.now)) (S.told shelf.old) (λ contents. WritesAndLeaves
         (T.answers (map string_bytes words.now) contents) (T.leaves (map string_bytes words.now) contents)
         (K.written out.old) (K.written out.new) loan.old loan.new result) }
-    ensures shelf { KeepsShelf S.told S.faults S.is_last (T.reached (S.told shelf.old) (map string_bytes words.now))
+    ensures shelf { KeepsShelf S.Shelf (T.reached (S.told shelf.old) (map string_bytes words.now))
         shelf.old shelf.new result }
-    ensures sink { KeepsCount K.faults K.is_last out.old out.new result }
+    ensures sink { KeepsCount K.Sink out.old out.new result }
 {
     let mut lines = Lines::new(out);
     let ending = tool.answer(alloc, words, shelf, loan, &mut lines)?;

@@ -1,9 +1,10 @@
 -- What a value of `Lines` holds, and what its calls do. The rules are the tool's own.
-use Rattle.std.specs.Prelude.{◌≡◌, ℕ, List, ◌++◌, true, false, Option, Result, OnOk, OnErr}
+use Rattle.std.specs.Prelude.{◌≡◌, ℕ, List, ◌++◌, true, false, Option, Result, Ok, Err}
 use Rattle.std.specs.Borrow.{MutBor}
 use Rattle.tool_io.specs.declared.lines.Lines.{Lines}
 use Rattle.tool_io.specs.Bytes.{then_bytes}
-use Rattle.tool_io.specs.Causes.{HasCause, NeverFalls}
+use Rattle.tool_io.specs.Causes.{HasRisen, NeverFalls}
+use Rattle.tool_io.specs.declared.outside.Sink.{Ghosts as SinkOf}
 
 -- the bytes that are put and not yet written
 abbrev pub gathered : {K : Type 0} → Lines K → List ℕ
@@ -22,8 +23,8 @@ abbrev pub sink_of : {K : Type 0} → Lines K → K
 sink_of lines = lines.sink.now
 
 -- what that sink has taken
-abbrev pub taken : {K : Type 0} → (K → Option (List ℕ)) → Lines K → Option (List ℕ)
-taken written lines = written (sink_of lines)
+abbrev pub taken : {K : Type 0} → SinkOf K → Lines K → Option (List ℕ)
+taken sink lines = sink.written (sink_of lines)
 
 -- it stands over the sink that this reference points to
 abbrev pub IsOver : {K : Type 0} → Lines K → MutBor K → Type 0
@@ -37,36 +38,45 @@ IsOverSame old new = new.sink.ghost_name ≡ old.sink.ghost_name
 abbrev pub IsSinkUntouched : {K : Type 0} → Lines K → Lines K → Type 0
 IsSinkUntouched old new = sink_of new ≡ sink_of old
 
--- the cause of a call, by the count of the sink under it
-abbrev pub HasSinkCause : {K T E : Type 0} → (K → ℕ) → (K → Type 0) → Lines K → Lines K → Result T E → Type 0
-HasSinkCause faults is_last old new result = HasCause faults is_last (sink_of old) (sink_of new) result
+-- nothing has reached the sink, and it is the same
+abbrev pub IsSilent : {K : Type 0} → Lines K → Lines K → Type 0
+IsSilent old new = IsOverSame old new × IsSinkUntouched old new
 
--- that count did not fall, and stays at its last value
-abbrev pub SinkNeverFalls : {K : Type 0} → (K → ℕ) → (K → Type 0) → Lines K → Lines K → Type 0
-SinkNeverFalls faults is_last old new = NeverFalls faults is_last (sink_of old) (sink_of new)
+-- the count of that sink did not fall, and stays at its last value
+abbrev pub SinkNeverFalls : {K : Type 0} → SinkOf K → Lines K → Lines K → Type 0
+SinkNeverFalls sink old new = NeverFalls sink.faults sink.is_last (sink_of old) (sink_of new)
 
--- The bytes are put: what was gathered and these are what went to the sink and what is gathered now.
-pub record Puts {K : Type 0} (written : K → Option (List ℕ)) (old : Lines K) (bytes : List ℕ) (new : Lines K) : Type 0 where
+-- that count rose, or stands at its last value
+abbrev pub SinkHasRisen : {K : Type 0} → SinkOf K → Lines K → Lines K → Type 0
+SinkHasRisen sink old new = HasRisen sink.faults sink.is_last (sink_of old) (sink_of new)
+
+-- The bytes are put: what was gathered and these are what went to the sink and what is gathered now. The sink is the
+-- same, no call has failed, and the count of the sink was kept.
+pub record Puts {K : Type 0} (sink : SinkOf K) (old : Lines K) (bytes : List ℕ) (new : Lines K) : Type 0 where
   pub front : List ℕ
   pub parts : gathered old ++ bytes ≡ front ++ gathered new
-  pub went : taken written new ≡ then_bytes (taken written old) front
+  pub went : taken sink new ≡ then_bytes (taken sink old) front
+  pub same_sink : IsOverSame old new
+  pub whole : IsWhole new
+  pub kept : SinkNeverFalls sink old new
 
--- A front of what was gathered and of the bytes went to the sink.
-pub record PutsFront {K : Type 0} (written : K → Option (List ℕ)) (old : Lines K) (bytes : List ℕ) (new : Lines K) : Type 0 where
+-- A front of what was gathered and of the bytes went to the sink. The sink is the same, and its count rose, or stands at
+-- its last value.
+pub record PutsFront {K : Type 0} (sink : SinkOf K) (old : Lines K) (bytes : List ℕ) (new : Lines K) : Type 0 where
   pub front : List ℕ
   pub rest : List ℕ
   pub parts : gathered old ++ bytes ≡ front ++ rest
-  pub went : taken written new ≡ then_bytes (taken written old) front
-
--- What a call does that puts bytes: they are put, or a front of them if the call failed.
-pub record HasPut {K T E : Type 0} (written : K → Option (List ℕ)) (old : Lines K) (bytes : List ℕ) (new : Lines K) (result : Result T E) : Type 0 where
-  pub ok : OnOk result (Puts written old bytes new)
-  pub front : OnErr result (PutsFront written old bytes new)
-
--- What such a call keeps: the sink under the lines, the lines if it did not fail, and the count of the sink, which has
--- the cause of a failure.
-pub record KeepsLines {K T E : Type 0} (faults : K → ℕ) (is_last : K → Type 0) (old new : Lines K) (result : Result T E) : Type 0 where
+  pub went : taken sink new ≡ then_bytes (taken sink old) front
   pub same_sink : IsOverSame old new
-  pub whole : OnOk result (IsWhole new)
-  pub broken : OnErr result (IsBroken new)
-  pub cause : HasSinkCause faults is_last old new result
+  pub kept : SinkNeverFalls sink old new
+  pub rose : SinkHasRisen sink old new
+
+-- The same, and a call on the lines has failed.
+pub record PutsBroken {K : Type 0} (sink : SinkOf K) (old : Lines K) (bytes : List ℕ) (new : Lines K) : Type 0 where
+  pub put : PutsFront sink old bytes new
+  pub broken : IsBroken new
+
+-- What a call does that puts bytes, by its result.
+abbrev pub HasPut : {K T E : Type 0} → SinkOf K → Lines K → List ℕ → Lines K → Result T E → Type 0
+HasPut sink old bytes new (Ok x) = Puts sink old bytes new
+HasPut sink old bytes new (Err e) = PutsBroken sink old bytes new

@@ -2,7 +2,7 @@
 ghost use Rattle.std.specs.Prelude.{◌≡◌, ◌+◌, ◌<◌, ◌≤◌, [], ◌++◌, length, IsOk, OnOk, OnErr};
 ghost use Rattle.std.specs.Fmt.{signed_decimal};
 ghost use Rattle.tool_io.specs.Causes.{HasCause};
-ghost use Rattle.tool_io.specs.Bytes.{then_bytes, Moves, MovesFront};
+ghost use Rattle.tool_io.specs.Bytes.{then_bytes, MovesFront};
 
 use crate::block::Block;
 use crate::{Failed, Sink};
@@ -35,7 +35,7 @@ fn write_all<K: Sink>(sink: &mut K, bytes: &[u8]) -> Result<(), Failed>
 }
 
 impl<'a, K: Sink> Lines<'a, K> {
-    ghost use Rattle.tool_io.specs.Lines.{gathered, IsWhole, taken, sink_of, IsOver, IsSinkUntouched, PutsFront, HasPut, KeepsLines};
+    ghost use Rattle.tool_io.specs.Lines.{gathered, IsWhole, sink_of, IsOver, IsSinkUntouched, HasPut};
 
     /// Over this sink, with nothing gathered.
     pub fn new(sink: &'a mut K) -> Lines<'a, K>
@@ -57,8 +57,7 @@ impl<'a, K: Sink> Lines<'a, K> {
     /// `Failed` as of the sink.
     pub fn put(&mut self, bytes: &[u8]) -> Result<(), Failed>
         requires { IsWhole self.old }
-        ensures put { HasPut K.written self.old bytes.now self.new result }
-        ensures kept { KeepsLines K.faults K.is_last self.old self.new result }
+        ensures put { HasPut K.Sink self.old bytes.now self.new result }
         ensures gathers { length (gathered self.old) + length bytes.now ≤ 4096 → IsOk result × IsSinkUntouched self.old self.new }
     {
         let mut rest = bytes;
@@ -75,8 +74,7 @@ impl<'a, K: Sink> Lines<'a, K> {
     /// `Failed` as of the sink.
     pub fn put_int(&mut self, n: i64) -> Result<(), Failed>
         requires { IsWhole self.old }
-        ensures put { HasPut K.written self.old (signed_decimal n) self.new result }
-        ensures kept { KeepsLines K.faults K.is_last self.old self.new result }
+        ensures put { HasPut K.Sink self.old (signed_decimal n) self.new result }
         ensures gathers { length (gathered self.old) + length (signed_decimal n) ≤ 4096 →
             IsOk result × IsSinkUntouched self.old self.new }
     {
@@ -89,10 +87,8 @@ impl<'a, K: Sink> Lines<'a, K> {
     /// `Failed` as of the sink.
     pub fn finish(&mut self) -> Result<(), Failed>
         requires { IsWhole self.old }
+        ensures put { HasPut K.Sink self.old [] self.new result }
         ensures empty { OnOk result (gathered self.new ≡ []) }
-        ensures ok { OnOk result (taken K.written self.new ≡ then_bytes (taken K.written self.old) (gathered self.old)) }
-        ensures front { OnErr result (PutsFront K.written self.old [] self.new) }
-        ensures kept { KeepsLines K.faults K.is_last self.old self.new result }
     {
         self.empty()?;
         if self.sink.flush().is_err() {
@@ -105,10 +101,8 @@ impl<'a, K: Sink> Lines<'a, K> {
     // Writes the block.
     fn empty(&mut self) -> Result<(), Failed>
         requires { IsWhole self.old }
+        ensures put { HasPut K.Sink self.old [] self.new result }
         ensures empty { OnOk result (gathered self.new ≡ []) }
-        ensures ok { OnOk result (taken K.written self.new ≡ then_bytes (taken K.written self.old) (gathered self.old)) }
-        ensures front { OnErr result (MovesFront (taken K.written self.old) (gathered self.old) (taken K.written self.new)) }
-        ensures kept { KeepsLines K.faults K.is_last self.old self.new result }
     {
         self.failed = true;
         write_all(self.sink, self.block.bytes())?;
@@ -123,9 +117,7 @@ impl<'a, K: Sink> Lines<'a, K> {
         ensures room { OnOk result (length (gathered self.new) < 4096) }
         ensures same { length (gathered self.old) < 4096 →
             IsOk result × IsSinkUntouched self.old self.new × (gathered self.new ≡ gathered self.old) }
-        ensures ok { OnOk result (Moves (taken K.written self.old) (gathered self.old) (taken K.written self.new) (gathered self.new)) }
-        ensures front { OnErr result (MovesFront (taken K.written self.old) (gathered self.old) (taken K.written self.new)) }
-        ensures kept { KeepsLines K.faults K.is_last self.old self.new result }
+        ensures put { HasPut K.Sink self.old [] self.new result }
     {
         if self.block.is_full() {
             return self.empty();

@@ -2,7 +2,7 @@
 ghost use Rattle.std.specs.Prelude.{◌≡◌, ◌≤◌, ◌<◌, ◌^◌, pos};
 ghost use Rattle.base.specs.Bits.{low_bits};
 ghost use Rattle.bit_list.specs.Hexadecimal.{all_hex_digits};
-ghost use Rattle.tool_io.specs.Lines.{IsWhole, HasPut, KeepsLines};
+ghost use Rattle.tool_io.specs.Lines.{IsWhole, HasPut};
 ghost use Rattle.tool_io.specs.Texts.{labelled, number_line, word_line, is_plain, escaped_byte, escaped, labelled_text};
 
 use crate::{Failed, Lines, Sink};
@@ -13,8 +13,7 @@ use bit_list::{hex_byte, word_digits};
 /// `Failed` as of the sink.
 pub fn put_labelled<K: Sink>(lines: &mut Lines<K>, label: &[u8], n: i64) -> Result<(), Failed>
     requires { IsWhole lines.old }
-    ensures put { HasPut K.written lines.old (labelled label.now n) lines.new result }
-    ensures kept { KeepsLines K.faults K.is_last lines.old lines.new result }
+    ensures { HasPut K.Sink lines.old (labelled label.now n) lines.new result }
 {
     lines.put(label)?;
     lines.put_int(n)?;
@@ -26,8 +25,7 @@ pub fn put_labelled<K: Sink>(lines: &mut Lines<K>, label: &[u8], n: i64) -> Resu
 /// `Failed` as of the sink.
 pub fn put_count<K: Sink>(lines: &mut Lines<K>, label: &[u8], n: u32) -> Result<(), Failed>
     requires { IsWhole lines.old }
-    ensures put { HasPut K.written lines.old (labelled label.now (pos n)) lines.new result }
-    ensures kept { KeepsLines K.faults K.is_last lines.old lines.new result }
+    ensures { HasPut K.Sink lines.old (labelled label.now (pos n)) lines.new result }
 {
     put_labelled(lines, label, i64::from(n))
 }
@@ -38,8 +36,7 @@ pub fn put_count<K: Sink>(lines: &mut Lines<K>, label: &[u8], n: u32) -> Result<
 pub fn put_size<K: Sink>(lines: &mut Lines<K>, label: &[u8], n: usize) -> Result<(), Failed>
     requires whole { IsWhole lines.old }
     requires small { n < 2 ^ 63 }
-    ensures put { HasPut K.written lines.old (labelled label.now (pos n)) lines.new result }
-    ensures kept { KeepsLines K.faults K.is_last lines.old lines.new result }
+    ensures { HasPut K.Sink lines.old (labelled label.now (pos n)) lines.new result }
 {
     put_labelled(lines, label, n as i64)
 }
@@ -49,8 +46,7 @@ pub fn put_size<K: Sink>(lines: &mut Lines<K>, label: &[u8], n: usize) -> Result
 /// `Failed` as of the sink.
 pub fn put_number_line<K: Sink>(lines: &mut Lines<K>, label: &[u8], n: i64) -> Result<(), Failed>
     requires { IsWhole lines.old }
-    ensures put { HasPut K.written lines.old (number_line label.now n) lines.new result }
-    ensures kept { KeepsLines K.faults K.is_last lines.old lines.new result }
+    ensures { HasPut K.Sink lines.old (number_line label.now n) lines.new result }
 {
     put_labelled(lines, label, n)?;
     lines.put(b"\n")?;
@@ -62,8 +58,7 @@ pub fn put_number_line<K: Sink>(lines: &mut Lines<K>, label: &[u8], n: i64) -> R
 /// `Failed` as of the sink.
 pub fn put_count_line<K: Sink>(lines: &mut Lines<K>, label: &[u8], n: u32) -> Result<(), Failed>
     requires { IsWhole lines.old }
-    ensures put { HasPut K.written lines.old (number_line label.now (pos n)) lines.new result }
-    ensures kept { KeepsLines K.faults K.is_last lines.old lines.new result }
+    ensures { HasPut K.Sink lines.old (number_line label.now (pos n)) lines.new result }
 {
     put_number_line(lines, label, i64::from(n))
 }
@@ -73,8 +68,7 @@ pub fn put_count_line<K: Sink>(lines: &mut Lines<K>, label: &[u8], n: u32) -> Re
 /// `Failed` as of the sink.
 pub fn put_word_line<K: Sink>(lines: &mut Lines<K>, word: &[u8]) -> Result<(), Failed>
     requires { IsWhole lines.old }
-    ensures put { HasPut K.written lines.old (word_line word.now) lines.new result }
-    ensures kept { KeepsLines K.faults K.is_last lines.old lines.new result }
+    ensures { HasPut K.Sink lines.old (word_line word.now) lines.new result }
 {
     lines.put(word)?;
     lines.put(b"\n")?;
@@ -89,8 +83,7 @@ pub fn put_hex<K: Sink>(lines: &mut Lines<K>, number: u64, len: u32) -> Result<(
     requires whole { IsWhole lines.old }
     requires most { len ≤ 64 }
     requires fits { number < 2 ^ len }
-    ensures put { HasPut K.written lines.old (all_hex_digits (low_bits len number)) lines.new result }
-    ensures kept { KeepsLines K.faults K.is_last lines.old lines.new result }
+    ensures { HasPut K.Sink lines.old (all_hex_digits (low_bits len number)) lines.new result }
 {
     let digits = word_digits(number);
     let first = 16 - len.div_ceil(4) as usize;
@@ -106,8 +99,7 @@ fn is_plain_byte(byte: u8) -> bool
 // Puts a byte of a text, which is escaped if it is not plain.
 fn put_escaped_byte<K: Sink>(lines: &mut Lines<K>, byte: u8) -> Result<(), Failed>
     requires { IsWhole lines.old }
-    ensures put { HasPut K.written lines.old (escaped_byte byte) lines.new result }
-    ensures kept { KeepsLines K.faults K.is_last lines.old lines.new result }
+    ensures { HasPut K.Sink lines.old (escaped_byte byte) lines.new result }
 {
     if is_plain_byte(byte) {
         return lines.put(&[byte]);
@@ -121,8 +113,7 @@ fn put_escaped_byte<K: Sink>(lines: &mut Lines<K>, byte: u8) -> Result<(), Faile
 /// `Failed` as of the sink.
 pub fn put_escaped<K: Sink>(lines: &mut Lines<K>, text: &[u8]) -> Result<(), Failed>
     requires { IsWhole lines.old }
-    ensures put { HasPut K.written lines.old (escaped text.now) lines.new result }
-    ensures kept { KeepsLines K.faults K.is_last lines.old lines.new result }
+    ensures { HasPut K.Sink lines.old (escaped text.now) lines.new result }
 {
     for byte in text {
         put_escaped_byte(lines, *byte)?;
@@ -139,8 +130,7 @@ pub fn put_labelled_text<K: Sink>(
     text: &[u8],
 ) -> Result<(), Failed>
     requires { IsWhole lines.old }
-    ensures put { HasPut K.written lines.old (labelled_text label.now text.now) lines.new result }
-    ensures kept { KeepsLines K.faults K.is_last lines.old lines.new result }
+    ensures { HasPut K.Sink lines.old (labelled_text label.now text.now) lines.new result }
 {
     lines.put(label)?;
     put_escaped(lines, text)?;

@@ -3,7 +3,8 @@ use Rattle.std.proofs.Common.{◌≡◌, ◌≢◌, ◌<◌, ◌-◌, ℕ, zero,
 use Rattle.std.specs.Prelude.{All}
 use Rattle.std.proofs.lemmas.List.Elements.{All-head, All-tail}
 use Rattle.tool_io.specs.declared.lines.Lines.{Lines}
-use Rattle.tool_io.specs.Lines.{IsSinkUntouched}
+use Rattle.tool_io.specs.declared.outside.Sink.{Ghosts as SinkOf}
+use Rattle.tool_io.specs.Lines.{IsSilent}
 use Rattle.tool_frame.specs.declared.no_answer.NoAnswer.{NoAnswer}
 use Rattle.tool_frame.specs.Answers.{Says}
 use Rattle.tool_frame.proofs.AnswerLemmas.{says_within}
@@ -38,9 +39,9 @@ pub elsewhere : (text : List ℕ) (piece number l : ℕ) (r : Reason) → piece 
 elsewhere text piece number l r other fault line reason here = other ((one_first_fault text piece l number line r reason fault here).0)
 
 -- the answer to a text that is too long
-pub long_within : {K : Type 0} (written : K → Option (List ℕ)) (old new : Lines K) (number : ℕ) (held : Option (List ℕ)) (r : Result Status NoAnswer) →
-    IsSomeAnd held (λ bytes. text_limit < length bytes) → Says written IsLongAnswer ⊥ old new r →
-    Says written (HeldPieceAnswer number held) (IsSinkUntouched old new) old new r
-long_within written old new number None r more says = absurd more
-long_within written old new number (Some text) r more says =
-    says_within written IsLongAnswer (PieceAnswer text number) old new r (record { to = λ said status a. long more a }) (λ none. absurd none) says
+pub long_within : {K : Type 0} (sink : SinkOf K) (old new : Lines K) (number : ℕ) (held : Option (List ℕ)) (r : Result Status NoAnswer) →
+    IsSomeAnd held (λ bytes. text_limit < length bytes) → Says sink IsLongAnswer ⊥ old new r →
+    Says sink (HeldPieceAnswer number held) (IsSilent old new) old new r
+long_within sink old new number None r more says = absurd more
+long_within sink old new number (Some text) r more says =
+    says_within sink IsLongAnswer (PieceAnswer text number) old new r (record { to = λ said status a. long more a }) (λ none. absurd none) says

@@ -1,7 +1,7 @@
 //! What is answered to `--explain`, and which words ask a question.
 ghost use Rattle.std.specs.Prelude.{◌≡◌, map, string_bytes};
 ghost use Rattle.tool_io.specs.Lines.{IsWhole};
-ghost use Rattle.tool_frame.specs.Answers.{Says, KeepsOutput};
+ghost use Rattle.tool_frame.specs.Answers.{Says};
 ghost use Rattle.program_reports.specs.Explanations.{word_paragraphs};
 ghost use Rattle.tool_questions.specs.Questions.{ask_question, IsUsage, IsExplained, WordAnswer};
 
@@ -15,8 +15,7 @@ use tool_io::{Lines, Sink};
 /// Refuses a word of the command, counted from 1.
 pub(crate) fn refuse<K: Sink>(n: u32, lines: &mut Lines<K>) -> Result<Status, NoAnswer>
     requires { IsWhole lines.old }
-    ensures says { Says K.written (IsUsage n) ⊥ lines.old lines.new result }
-    ensures output { KeepsOutput K.faults K.is_last lines.old lines.new result }
+    ensures { Says K.Sink (IsUsage n) ⊥ lines.old lines.new result }
 {
     put_usage(lines, n)?;
     Ok(Status::Usage(n))
@@ -30,8 +29,7 @@ fn explain_by<K: Sink>(
 ) -> Result<Status, NoAnswer>
     requires paragraphs { map (λ line. line.now) paragraphs.now ≡ word_paragraphs word.now }
     requires whole { IsWhole lines.old }
-    ensures says { Says K.written (IsExplained word.now) ⊥ lines.old lines.new result }
-    ensures output { KeepsOutput K.faults K.is_last lines.old lines.new result }
+    ensures { Says K.Sink (IsExplained word.now) ⊥ lines.old lines.new result }
 {
     if paragraphs.is_empty() {
         return refuse(2, lines);
@@ -43,8 +41,7 @@ fn explain_by<K: Sink>(
 // Explains a word.
 fn explain<K: Sink>(alloc: Global, word: &str, lines: &mut Lines<K>) -> Result<Status, NoAnswer>
     requires { IsWhole lines.old }
-    ensures says { Says K.written (IsExplained word.now) ⊥ lines.old lines.new result }
-    ensures output { KeepsOutput K.faults K.is_last lines.old lines.new result }
+    ensures { Says K.Sink (IsExplained word.now) ⊥ lines.old lines.new result }
 {
     let paragraphs = explanation(alloc, word.as_bytes())?;
     explain_by(word, &paragraphs, lines)
@@ -57,8 +54,7 @@ pub(crate) fn answer_word<K: Sink>(
     lines: &mut Lines<K>,
 ) -> Result<Status, NoAnswer>
     requires { IsWhole lines.old }
-    ensures says { Says K.written (WordAnswer (map string_bytes rest.now)) ⊥ lines.old lines.new result }
-    ensures output { KeepsOutput K.faults K.is_last lines.old lines.new result }
+    ensures { Says K.Sink (WordAnswer (map string_bytes rest.now)) ⊥ lines.old lines.new result }
 {
     match rest {
         [] => refuse(2, lines),

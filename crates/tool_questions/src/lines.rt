@@ -1,6 +1,6 @@
 //! The lines of a piece.
 ghost use Rattle.std.specs.Prelude.{◌≡◌, map, Some};
-ghost use Rattle.tool_io.specs.Lines.{IsWhole, HasPut, KeepsLines};
+ghost use Rattle.tool_io.specs.Lines.{IsWhole, HasPut};
 ghost use Rattle.stapl_lexer.specs.Pieces.{LiesIn};
 ghost use Rattle.tool_questions.specs.Pieces.{piece_text, refusal_text, why_refused, shown_text};
 
@@ -19,8 +19,7 @@ fn put_piece<K: Sink>(
 ) -> Result<(), Failed>
     requires whole { IsWhole lines.old }
     requires lies { LiesIn text.now piece.now }
-    ensures put { HasPut K.written lines.old (piece_text text.now number piece.now) lines.new result }
-    ensures kept { KeepsLines K.faults K.is_last lines.old lines.new result }
+    ensures { HasPut K.Sink lines.old (piece_text text.now number piece.now) lines.new result }
 {
     put_count(lines, b"piece ", number)?;
     put_count_line(lines, b" line ", piece.line)?;
@@ -39,8 +38,7 @@ pub(crate) fn put_refused<K: Sink>(
 ) -> Result<(), Failed>
     requires whole { IsWhole lines.old }
     requires why { map (λ line. line.now) why.now ≡ why_refused (Some refusal) }
-    ensures put { HasPut K.written lines.old (refusal_text number (Some refusal)) lines.new result }
-    ensures kept { KeepsLines K.faults K.is_last lines.old lines.new result }
+    ensures { HasPut K.Sink lines.old (refusal_text number (Some refusal)) lines.new result }
 {
     put_refusal(lines, number, refusal.line, refusal.reason)?;
     put_paragraphs(lines, why)
@@ -55,8 +53,7 @@ fn put_refusal_if<K: Sink>(
 ) -> Result<(), Failed>
     requires whole { IsWhole lines.old }
     requires why { map (λ line. line.now) why.now ≡ why_refused refusal }
-    ensures put { HasPut K.written lines.old (refusal_text number refusal) lines.new result }
-    ensures kept { KeepsLines K.faults K.is_last lines.old lines.new result }
+    ensures { HasPut K.Sink lines.old (refusal_text number refusal) lines.new result }
 {
     match refusal {
         Some(refusal) => put_refused(lines, number, refusal, why),
@@ -81,9 +78,8 @@ pub(crate) fn put_shown<K: Sink>(lines: &mut Lines<K>, shown: &Shown) -> Result<
     requires whole { IsWhole lines.old }
     requires lies { LiesIn shown.now.text.now shown.now.piece }
     requires why { map (λ line. line.now) shown.now.why.now ≡ why_refused shown.now.refusal }
-    ensures put { HasPut K.written lines.old
+    ensures { HasPut K.Sink lines.old
         (shown_text shown.now.text.now shown.now.number shown.now.piece shown.now.refusal) lines.new result }
-    ensures kept { KeepsLines K.faults K.is_last lines.old lines.new result }
 {
     put_piece(lines, shown.text, shown.number, &shown.piece)?;
     put_refusal_if(lines, shown.number, shown.refusal, shown.why)

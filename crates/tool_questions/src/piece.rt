@@ -1,7 +1,7 @@
 //! The answer to a question about a piece of a program.
 ghost use Rattle.std.specs.Prelude.{◌≡◌, ◌≤◌, None, Some, map, length, IfSome, IfOk};
-ghost use Rattle.tool_io.specs.Lines.{IsWhole, IsSinkUntouched};
-ghost use Rattle.tool_frame.specs.Answers.{Says, KeepsOutput};
+ghost use Rattle.tool_io.specs.Lines.{IsWhole, IsSilent};
+ghost use Rattle.tool_frame.specs.Answers.{Says};
 ghost use Rattle.tool_frame.specs.Files.{OfFile, KeepsShelf};
 ghost use Rattle.stapl_lexer.specs.Pieces.{LiesIn, text_limit};
 ghost use Rattle.tool_questions.specs.Pieces.{why_refused, IsReport, PieceAnswer, IsLongAnswer, HeldPieceAnswer};
@@ -39,8 +39,7 @@ fn answer_end<K: Sink>(
     requires none { report.place ≡ None }
     requires why { map (λ line. line.now) why.now ≡ why_refused report.refusal }
     requires whole { IsWhole lines.old }
-    ensures says { Says K.written (PieceAnswer text.now number) ⊥ lines.old lines.new result }
-    ensures output { KeepsOutput K.faults K.is_last lines.old lines.new result }
+    ensures { Says K.Sink (PieceAnswer text.now number) ⊥ lines.old lines.new result }
 {
     match report.refusal {
         Some(refusal) => {
@@ -67,8 +66,7 @@ fn answer_report<K: Sink>(
     requires lies { IfSome report.place (LiesIn text.now) }
     requires why { map (λ line. line.now) why.now ≡ why_refused report.refusal }
     requires whole { IsWhole lines.old }
-    ensures says { Says K.written (PieceAnswer text.now number) ⊥ lines.old lines.new result }
-    ensures output { KeepsOutput K.faults K.is_last lines.old lines.new result }
+    ensures { Says K.Sink (PieceAnswer text.now number) ⊥ lines.old lines.new result }
 {
     let refusal = report.refusal;
     match report.place {
@@ -96,8 +94,7 @@ fn answer_text<K: Sink>(
 ) -> Result<Status, NoAnswer>
     requires small { length text.now ≤ text_limit }
     requires whole { IsWhole lines.old }
-    ensures says { Says K.written (PieceAnswer text.now number) ⊥ lines.old lines.new result }
-    ensures output { KeepsOutput K.faults K.is_last lines.old lines.new result }
+    ensures { Says K.Sink (PieceAnswer text.now number) ⊥ lines.old lines.new result }
 {
     let report = report_of(alloc, text, number)?;
     let why = why_refused(alloc, report.refusal)?;
@@ -107,8 +104,7 @@ fn answer_text<K: Sink>(
 // Says that a text is too long.
 fn answer_long<K: Sink>(alloc: Global, lines: &mut Lines<K>) -> Result<Status, NoAnswer>
     requires whole { IsWhole lines.old }
-    ensures says { Says K.written IsLongAnswer ⊥ lines.old lines.new result }
-    ensures output { KeepsOutput K.faults K.is_last lines.old lines.new result }
+    ensures { Says K.Sink IsLongAnswer ⊥ lines.old lines.new result }
 {
     let refusal = Refusal {
         line: 0,
@@ -135,9 +131,8 @@ pub(crate) fn answer_piece<S: Shelf, K: Sink>(
 ) -> Result<Status, NoAnswer>
     requires { IsWhole lines.old }
     ensures says { OfFile (S.told shelf.old) (Some path.now) (λ held.
-        Says K.written (HeldPieceAnswer number held) (IsSinkUntouched lines.old lines.new) lines.old lines.new result) }
-    ensures shelf { KeepsShelf S.told S.faults S.is_last (λ read. read ≡ path.now) shelf.old shelf.new result }
-    ensures output { KeepsOutput K.faults K.is_last lines.old lines.new result }
+        Says K.Sink (HeldPieceAnswer number held) (IsSilent lines.old lines.new) lines.old lines.new result) }
+    ensures shelf { KeepsShelf S.Shelf (λ read. read ≡ path.now) shelf.old shelf.new result }
 {
     match read_whole(alloc, shelf, path, TEXT_LIMIT as u32) {
         Ok(bytes) => answer_text(alloc, &bytes, number, lines),

@@ -1,7 +1,6 @@
 //! The tool that answers questions.
 ghost use Rattle.std.specs.Prelude.{map, string_bytes};
 ghost use Rattle.tool_io.specs.Lines.{IsWhole};
-ghost use Rattle.tool_frame.specs.Answers.{KeepsOutput};
 ghost use Rattle.tool_frame.specs.Files.{OfFiles, NamesOne, first_of, KeepsShelf};
 ghost use Rattle.tool_frame.specs.Frame.{SaysAndLeaves};
 ghost use Rattle.play_status.specs.Codes.{exit_code_of};

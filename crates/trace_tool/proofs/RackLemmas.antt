@@ -2,6 +2,7 @@
 use Rattle.std.proofs.Common.{◌≡◌, ◌∙◌, ℕ, List, map, Option, Some, Result, Ok, Err, refl, sym, subst}
 use Rattle.std.specs.Prelude.{IsErrAnd, IsSomeAnd}
 use Rattle.tool_io.specs.declared.lines.Lines.{Lines}
+use Rattle.tool_io.specs.declared.outside.Sink.{Ghosts as SinkOf}
 use Rattle.dev_card.specs.declared.desc.Desc.{Desc}
 use Rattle.dev_card.specs.Card.{Card}
 use Rattle.dev_card.specs.PaddedScan.{descriptions_of}
@@ -36,12 +37,12 @@ rack_same status never = record { rack = record { kinds = refl; early = λ p. re
 
 -- no file was read
 pub rack_compared : {K D Kind : Type 0} {kind_of : D → Kind} {fitted : D → Option SoundCard} {final : TraceStatus → List (Option SoundCard) → Type 0} {before after : List D}
-    (written : K → Option (List ℕ)) (A : List ℕ → TraceStatus → Type 0) (old new : Lines K) (r : Result TraceStatus NoAnswer) → Says written A ⊥ old new r →
+    (sink : SinkOf K) (A : List ℕ → TraceStatus → Type 0) (old new : Lines K) (r : Result TraceStatus NoAnswer) → Says sink A ⊥ old new r →
     KeepsRack kind_of fitted final before after r → LeavesRack kind_of fitted final before after r
-rack_compared written A old new (Ok status) says k = record { rack = k; unread = λ e. absurd cc }
-rack_compared written A old new (Err Read) says k = absurd says
-rack_compared written A old new (Err Write) says k = record { rack = k; unread = λ e. absurd cc }
-rack_compared written A old new (Err Memory) says k = record { rack = k; unread = λ e. absurd cc }
+rack_compared sink A old new (Ok status) says k = record { rack = k; unread = λ e. absurd cc }
+rack_compared sink A old new (Err Read) says k = absurd says
+rack_compared sink A old new (Err Write) says k = record { rack = k; unread = λ e. absurd cc }
+rack_compared sink A old new (Err Memory) says k = record { rack = k; unread = λ e. absurd cc }
 
 -- the same, by another name
 pub rack_as : {D Kind : Type 0} {kind_of : D → Kind} {fitted : D → Option SoundCard} {A B : TraceStatus → List (Option SoundCard) → Type 0} {before after : List D}

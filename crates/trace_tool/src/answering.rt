@@ -1,7 +1,6 @@
 //! What is answered to a request: its board, and then its trace.
 ghost use Rattle.std.specs.Prelude.{map};
 ghost use Rattle.tool_io.specs.Lines.{IsWhole};
-ghost use Rattle.tool_frame.specs.Answers.{KeepsOutput};
 ghost use Rattle.tool_frame.specs.Files.{KeepsShelf};
 ghost use Rattle.tool_frame.specs.Frame.{SaysAndLeaves};
 ghost use Rattle.chain_sim.specs.Rack.{IsRack};
@@ -28,12 +27,11 @@ pub(crate) fn answer_request<S: Shelf, K: Sink>(
 ) -> Result<TraceStatus, NoAnswer>
     requires rack { IsRack (map kind_of rack.old.items) }
     requires whole { IsWhole lines.old }
-    ensures answers { OfContents (S.told shelf.old) (files_named named.entry) (λ contents. SaysAndLeaves K.written
+    ensures answers { OfContents (S.told shelf.old) (files_named named.entry) (λ contents. SaysAndLeaves K.Sink
         (RequestAnswer contents) (LeavesRack kind_of fitted (RequestHoldsLed contents))
         lines.old lines.new rack.old.items rack.new.items result) }
-    ensures shelf { KeepsShelf S.told S.faults S.is_last (IsReached (S.told shelf.old) (files_named named.entry))
+    ensures shelf { KeepsShelf S.Shelf (IsReached (S.told shelf.old) (files_named named.entry))
         shelf.old shelf.new result }
-    ensures output { KeepsOutput K.faults K.is_last lines.old lines.new result }
 {
     match board_named(alloc, shelf, named.board) {
         Ok(devices) => answer_file(alloc, &devices, named.file, shelf, rack, lines),

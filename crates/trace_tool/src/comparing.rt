@@ -2,7 +2,7 @@
 ghost use Rattle.std.specs.Prelude.{◌≡◌, ◌≤◌, length, map, Some};
 ghost use Rattle.trace_check.specs.Limits.{trace_limit};
 ghost use Rattle.tool_io.specs.Lines.{IsWhole};
-ghost use Rattle.tool_frame.specs.Answers.{Says, KeepsOutput};
+ghost use Rattle.tool_frame.specs.Answers.{Says};
 ghost use Rattle.board_text.specs.Boards.{CanBeFitted};
 ghost use Rattle.chain_sim.specs.Rack.{IsRack};
 ghost use Rattle.tool_frame.specs.Files.{OfFile, KeepsShelf};
@@ -31,8 +31,7 @@ fn compare<K: Sink>(
     requires few { length text.now ≤ trace_limit }
     requires rack { IsRack (map kind_of rack.old.items) }
     requires whole { IsWhole lines.old }
-    ensures says { Says K.written (TraceAnswer devices.now text.now) ⊥ lines.old lines.new result }
-    ensures output { KeepsOutput K.faults K.is_last lines.old lines.new result }
+    ensures says { Says K.Sink (TraceAnswer devices.now text.now) ⊥ lines.old lines.new result }
     ensures rack { KeepsRack kind_of fitted (HoldsLed devices.now text.now) rack.old.items rack.new.items result }
 {
     let places = fit_board(alloc, rack, devices)?;
@@ -65,11 +64,10 @@ pub(crate) fn answer_file<S: Shelf, K: Sink>(
     requires devices { CanBeFitted devices.now }
     requires rack { IsRack (map kind_of rack.old.items) }
     requires whole { IsWhole lines.old }
-    ensures answers { OfFile (S.told shelf.old) (Some path.now) (λ held. SaysAndLeaves K.written
+    ensures answers { OfFile (S.told shelf.old) (Some path.now) (λ held. SaysAndLeaves K.Sink
         (FileAnswer devices.now held) (LeavesRack kind_of fitted (HeldLed devices.now held))
         lines.old lines.new rack.old.items rack.new.items result) }
-    ensures shelf { KeepsShelf S.told S.faults S.is_last (λ read. read ≡ path.now) shelf.old shelf.new result }
-    ensures output { KeepsOutput K.faults K.is_last lines.old lines.new result }
+    ensures shelf { KeepsShelf S.Shelf (λ read. read ≡ path.now) shelf.old shelf.new result }
 {
     match read_whole(alloc, shelf, path, TRACE_LIMIT) {
         Ok(bytes) => compare(alloc, devices, &bytes, rack, lines),

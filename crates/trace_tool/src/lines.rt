@@ -1,6 +1,6 @@
 //! The lines that this tool alone writes.
 ghost use Rattle.std.specs.Prelude.{◌≡◌, ◌++◌, map, IsSomeAnd};
-ghost use Rattle.tool_io.specs.Lines.{IsWhole, HasPut, KeepsLines};
+ghost use Rattle.tool_io.specs.Lines.{IsWhole, HasPut};
 ghost use Rattle.dev_card.specs.PaddedScan.{descriptions_of};
 ghost use Rattle.chain_sim.specs.Places.{cards_at};
 ghost use Rattle.chain_sim.specs.Reports.{report_in};
@@ -22,9 +22,8 @@ pub(crate) fn put_good<D: Device, K: Sink>(
 ) -> Result<(), Failed>
     requires whole { IsWhole lines.old }
     requires board { IsSomeAnd (cards_at (map D.fitted rack.now) places.now) (λ cs. descriptions_of cs ≡ descs.now) }
-    ensures put { HasPut K.written lines.old (good_line n ++ report_in (cards_at (map D.fitted rack.now) places.now))
+    ensures { HasPut K.Sink lines.old (good_line n ++ report_in (cards_at (map D.fitted rack.now) places.now))
         lines.new result }
-    ensures kept { KeepsLines K.faults K.is_last lines.old lines.new result }
 {
     put_count_line(lines, b"trace good clocks ", n)?;
     put_report(lines, rack, places, descs)?;
@@ -36,8 +35,7 @@ pub(crate) fn put_good<D: Device, K: Sink>(
 /// `Failed` as of the sink.
 pub(crate) fn put_differs<K: Sink>(lines: &mut Lines<K>, i: u32) -> Result<(), Failed>
     requires { IsWhole lines.old }
-    ensures put { HasPut K.written lines.old (differs_line i) lines.new result }
-    ensures kept { KeepsLines K.faults K.is_last lines.old lines.new result }
+    ensures { HasPut K.Sink lines.old (differs_line i) lines.new result }
 {
     put_count_line(lines, b"trace differs clock ", i)
 }
@@ -47,8 +45,7 @@ pub(crate) fn put_differs<K: Sink>(lines: &mut Lines<K>, i: u32) -> Result<(), F
 /// `Failed` as of the sink.
 pub fn put_bad_line<K: Sink>(lines: &mut Lines<K>, n: u32) -> Result<(), Failed>
     requires { IsWhole lines.old }
-    ensures put { HasPut K.written lines.old (bad_line_text n) lines.new result }
-    ensures kept { KeepsLines K.faults K.is_last lines.old lines.new result }
+    ensures { HasPut K.Sink lines.old (bad_line_text n) lines.new result }
 {
     put_count(lines, b"R trace ", n)?;
     lines.put(b" BadLine\n")?;
@@ -60,8 +57,7 @@ pub fn put_bad_line<K: Sink>(lines: &mut Lines<K>, n: u32) -> Result<(), Failed>
 /// `Failed` as of the sink.
 pub fn put_too_long<K: Sink>(lines: &mut Lines<K>) -> Result<(), Failed>
     requires { IsWhole lines.old }
-    ensures put { HasPut K.written lines.old too_long_line lines.new result }
-    ensures kept { KeepsLines K.faults K.is_last lines.old lines.new result }
+    ensures { HasPut K.Sink lines.old too_long_line lines.new result }
 {
     lines.put(b"R trace TooLong\n")
 }

@@ -1,8 +1,8 @@
 //! What is answered for the trace in a file.
 ghost use Rattle.std.specs.Prelude.{◌≡◌, ◌≤◌, Some, length};
 ghost use Rattle.trace_check.specs.Limits.{trace_limit};
-ghost use Rattle.tool_io.specs.Lines.{IsWhole, IsSinkUntouched};
-ghost use Rattle.tool_frame.specs.Answers.{Says, KeepsOutput};
+ghost use Rattle.tool_io.specs.Lines.{IsWhole, IsSilent};
+ghost use Rattle.tool_frame.specs.Answers.{Says};
 ghost use Rattle.tool_frame.specs.Files.{OfFile, KeepsShelf};
 ghost use Rattle.wave_tool.specs.Answers.{WaveAnswer, FileAnswer};
 
@@ -18,8 +18,7 @@ use trace_tool::{put_bad_line, put_too_long};
 fn answer_text<K: Sink>(text: &[u8], lines: &mut Lines<K>) -> Result<WaveStatus, NoAnswer>
     requires few { length text.now ≤ trace_limit }
     requires whole { IsWhole lines.old }
-    ensures says { Says K.written (WaveAnswer text.now) ⊥ lines.old lines.new result }
-    ensures output { KeepsOutput K.faults K.is_last lines.old lines.new result }
+    ensures { Says K.Sink (WaveAnswer text.now) ⊥ lines.old lines.new result }
 {
     match first_bad_line(text) {
         Some(n) => {
@@ -42,9 +41,8 @@ pub(crate) fn answer_file<S: Shelf, K: Sink>(
 ) -> Result<WaveStatus, NoAnswer>
     requires { IsWhole lines.old }
     ensures says { OfFile (S.told shelf.old) (Some path.now) (λ held.
-        Says K.written (FileAnswer held) (IsSinkUntouched lines.old lines.new) lines.old lines.new result) }
-    ensures shelf { KeepsShelf S.told S.faults S.is_last (λ read. read ≡ path.now) shelf.old shelf.new result }
-    ensures output { KeepsOutput K.faults K.is_last lines.old lines.new result }
+        Says K.Sink (FileAnswer held) (IsSilent lines.old lines.new) lines.old lines.new result) }
+    ensures shelf { KeepsShelf S.Shelf (λ read. read ≡ path.now) shelf.old shelf.new result }
 {
     match read_whole(alloc, shelf, path, TRACE_LIMIT) {
         Ok(bytes) => answer_text(&bytes, lines),

@@ -1,11 +1,15 @@
 -- On bytes that are put one after another. An impl names these, and it may name no file of proofs/.
 use Rattle.std.proofs.Common.{ℕ, List, [], ◌++◌, sym, ap, ◌∙◌, append_assoc, Option}
 use Rattle.std.proofs.lemmas.List.{append-nil}
+use Rattle.std.specs.Prelude.{Result, Ok, Err}
+use Rattle.std.proofs.lemmas.Bool.{false≢true}
 use Rattle.tool_io.specs.declared.lines.Lines.{Lines}
+use Rattle.tool_io.specs.declared.outside.Sink.{Ghosts as SinkOf}
 use Rattle.tool_io.specs.Bytes.{then_bytes}
+use Rattle.tool_io.specs.Causes.{HasCause}
 use Rattle.tool_io.specs.Lines as io
 use Rattle.tool_io.proofs.BytesLemmas.{then_bytes-twice, then_bytes-nothing}
-use Rattle.written_cable.specs.Papers.{Shown, Begins, Puts, PutsFront, shown_of}
+use Rattle.written_cable.specs.Papers.{Shown, Begins, Puts, PutsFront, shown_of, faults_of, IsLastOf}
 
 -- nothing is put
 pub puts_nothing : {K : Type 0} (shown : K → Shown) (lines : K) → Puts shown lines [] lines
@@ -65,21 +69,31 @@ front_with {shown = shown} {a = a} {xs = xs} more m = record {
 }
 
 -- of lines
-pub puts_on : {K : Type 0} (written : K → Option (List ℕ)) (a b : Lines K) (bytes : List ℕ) → io.Puts written a bytes b → Puts (shown_of written) a bytes b
-puts_on written a b bytes p = record { front = p.front; parts = p.parts; went = p.went }
+module _ {K : Type 0} (sink : SinkOf K) (a b : Lines K) (bytes : List ℕ) where
+  pub puts_on : io.Puts sink a bytes b → Puts (shown_of sink.written) a bytes b
+  puts_on p = record { front = p.front; parts = p.parts; went = p.went }
 
-pub puts_front_on : {K : Type 0} (written : K → Option (List ℕ)) (a b : Lines K) (bytes : List ℕ) → io.IsBroken b →
-    io.PutsFront written a bytes b → PutsFront (shown_of written) a bytes b
-puts_front_on written a b bytes broken p = record {
-  front = p.front;
-  rest = p.rest;
-  parts = p.parts;
-  went = p.went;
-  waits = λ whole. absurd cc;
-}
+  pub puts_front_on : io.PutsBroken sink a bytes b → PutsFront (shown_of sink.written) a bytes b
+  puts_front_on p = record {
+    front = p.put.front;
+    rest = p.put.rest;
+    parts = p.put.parts;
+    went = p.put.went;
+    waits = λ whole. absurd (false≢true (sym whole ∙ p.broken));
+  }
 
-pub puts_back : {K : Type 0} (written : K → Option (List ℕ)) (a b : Lines K) (bytes : List ℕ) → Puts (shown_of written) a bytes b → io.Puts written a bytes b
-puts_back written a b bytes p = record { front = p.front; parts = p.parts; went = p.went }
+  pub puts_cause : {T E : Type 0} (x : T) → io.Puts sink a bytes b →
+      HasCause {E = E} (faults_of sink.faults) (IsLastOf sink.is_last) a b (Ok x)
+  puts_cause x p = record { kept = p.kept; failed = tt }
 
-pub puts_front_back : {K : Type 0} (written : K → Option (List ℕ)) (a b : Lines K) (bytes : List ℕ) → PutsFront (shown_of written) a bytes b → io.PutsFront written a bytes b
-puts_front_back written a b bytes p = record { front = p.front; rest = p.rest; parts = p.parts; went = p.went }
+  pub front_cause : {T E : Type 0} (e : E) → io.PutsBroken sink a bytes b → HasCause {T = T} (faults_of sink.faults) (IsLastOf sink.is_last) a b (Err e)
+  front_cause e p = record { kept = p.put.kept; failed = p.put.rose }
+
+  pub puts_back : io.IsOverSame a b → io.IsWhole b → io.SinkNeverFalls sink a b → Puts (shown_of sink.written) a bytes b → io.Puts sink a bytes b
+  puts_back same whole kept p =
+      record { front = p.front; parts = p.parts; went = p.went; same_sink = same; whole = whole; kept = kept }
+
+  pub front_back : io.IsOverSame a b → io.SinkNeverFalls sink a b → io.SinkHasRisen sink a b → PutsFront (shown_of sink.written) a bytes b →
+      io.PutsFront sink a bytes b
+  front_back same kept rose p =
+      record { front = p.front; rest = p.rest; parts = p.parts; went = p.went; same_sink = same; kept = kept; rose = rose }

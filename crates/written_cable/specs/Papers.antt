@@ -4,7 +4,7 @@ use Rattle.std.specs.Prelude.{◌≡◌, ℕ, Bool, false, List, ◌++◌, Optio
 use Rattle.std.specs.Borrow.{GName}
 use Rattle.tool_io.specs.declared.lines.Lines.{Lines}
 use Rattle.tool_io.specs.Bytes.{then_bytes}
-use Rattle.tool_io.specs.Lines.{gathered, taken, sink_of}
+use Rattle.tool_io.specs.Lines.{gathered, sink_of}
 
 -- the bytes that are put and not yet written, those that are written, where that is told, whether a call has failed,
 -- and the name of what they are written to
@@ -42,7 +42,7 @@ abbrev pub shown_of : {K : Type 0} → (K → Option (List ℕ)) → Lines K →
 shown_of written lines =
     record {
       waiting_bytes = gathered lines;
-      told_bytes = taken written lines;
+      told_bytes = written (sink_of lines);
       is_broken = lines.failed;
       over = lines.sink.ghost_name;
     }

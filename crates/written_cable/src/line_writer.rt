@@ -1,6 +1,6 @@
 //! The written lines of events and of clocks.
 ghost use Rattle.std.specs.Prelude.{◌≡◌, ◌<◌, ◌≤◌, ◌+◌, ◌^◌, ◌++◌, ◌∷◌, [], codes, length, slice_get};
-ghost use Rattle.tool_io.specs.Lines.{IsWhole, HasPut, KeepsLines};
+ghost use Rattle.tool_io.specs.Lines.{IsWhole, HasPut};
 ghost use Rattle.base.specs.Bits.{low_bits};
 ghost use Rattle.bit_list.specs.Integers.{bits_of_int};
 ghost use Rattle.bit_list.specs.Hexadecimal.{all_hex_digits};
@@ -27,8 +27,7 @@ use tool_io::{Failed, Lines, Sink, put_count_line, put_escaped, put_hex};
 /// `Failed` as of the sink.
 pub fn put_print<K: Sink>(out: &mut Lines<K>, bytes: &[u8]) -> Result<(), Failed>
     requires { IsWhole out.old }
-    ensures put { HasPut K.written out.old (event_line (Print bytes.now)) out.new result }
-    ensures kept { KeepsLines K.faults K.is_last out.old out.new result }
+    ensures { HasPut K.Sink out.old (event_line (Print bytes.now)) out.new result }
 {
     out.put(b"P ")?;
     put_escaped(out, bytes)?;
@@ -41,8 +40,7 @@ fn put_digits<K: Sink>(out: &mut Lines<K>, bits: &Bits, span: Span) -> Result<()
     requires whole { IsWhole out.old }
     requires inside { span.low + span.count ≤ length bits.now }
     requires few { span.low + span.count + 3 < 2 ^ 32 }
-    ensures put { HasPut K.written out.old (all_hex_digits (span_bits (span_in span) bits.now)) out.new result }
-    ensures kept { KeepsLines K.faults K.is_last out.old out.new result }
+    ensures { HasPut K.Sink out.old (all_hex_digits (span_bits (span_in span) bits.now)) out.new result }
 {
     let mut left = span.count;
     'down: while left > 0 {
@@ -58,8 +56,7 @@ fn put_inside<K: Sink>(out: &mut Lines<K>, bits: &Bits, span: Span) -> Result<()
     requires whole { IsWhole out.old }
     requires inside { span.low + span.count ≤ length bits.now }
     requires few { span.low + span.count + 3 < 2 ^ 32 }
-    ensures put { HasPut K.written out.old (hex_text (span_bits (span_in span) bits.now)) out.new result }
-    ensures kept { KeepsLines K.faults K.is_last out.old out.new result }
+    ensures { HasPut K.Sink out.old (hex_text (span_bits (span_in span) bits.now)) out.new result }
 {
     out.put(b"$")?;
     put_digits(out, bits, span)?;
@@ -82,8 +79,7 @@ fn inside(span: Span, bits: &Bits) -> Span
 // Puts the text of as much of a part as lies in a list of bits.
 fn put_part<K: Sink>(out: &mut Lines<K>, bits: &Bits, span: Span) -> Result<(), Failed>
     requires { IsWhole out.old }
-    ensures put { HasPut K.written out.old (hex_text (span_bits (span_in span) bits.now)) out.new result }
-    ensures kept { KeepsLines K.faults K.is_last out.old out.new result }
+    ensures { HasPut K.Sink out.old (hex_text (span_bits (span_in span) bits.now)) out.new result }
 {
     let there = inside(span, bits);
     put_inside(out, bits, there)
@@ -103,8 +99,7 @@ fn whole_span(bits: &Bits) -> Span
 // Puts the text of all of a list of bits.
 fn put_all<K: Sink>(out: &mut Lines<K>, bits: &Bits) -> Result<(), Failed>
     requires { IsWhole out.old }
-    ensures put { HasPut K.written out.old (hex_text bits.now) out.new result }
-    ensures kept { KeepsLines K.faults K.is_last out.old out.new result }
+    ensures { HasPut K.Sink out.old (hex_text bits.now) out.new result }
 {
     let whole = whole_span(bits);
     put_part(out, bits, whole)
@@ -113,16 +108,14 @@ fn put_all<K: Sink>(out: &mut Lines<K>, bits: &Bits) -> Result<(), Failed>
 // Puts the text of a part of no bits.
 fn put_none<K: Sink>(out: &mut Lines<K>, span: Span) -> Result<(), Failed>
     requires { IsWhole out.old }
-    ensures put { HasPut K.written out.old (hex_text (span_bits (span_in span) [])) out.new result }
-    ensures kept { KeepsLines K.faults K.is_last out.old out.new result }
+    ensures { HasPut K.Sink out.old (hex_text (span_bits (span_in span) [])) out.new result }
 {
     out.put(b"$")
 }
 
 fn put_literal<K: Sink>(out: &mut Lines<K>, literals: &[Bits], n: u32) -> Result<(), Failed>
     requires { IsWhole out.old }
-    ensures put { HasPut K.written out.old (hex_text (literal_in (slice_get literals.now n))) out.new result }
-    ensures kept { KeepsLines K.faults K.is_last out.old out.new result }
+    ensures { HasPut K.Sink out.old (hex_text (literal_in (slice_get literals.now n))) out.new result }
 {
     match literal_at(literals, n) {
         Some(literal) => put_all(out, literal),
@@ -133,8 +126,7 @@ fn put_literal<K: Sink>(out: &mut Lines<K>, literals: &[Bits], n: u32) -> Result
 // Puts the text of a part of what a variable holds, which is no bits if it is no array of bits.
 fn put_held<K: Sink>(out: &mut Lines<K>, held: &Held, span: Span) -> Result<(), Failed>
     requires { IsWhole out.old }
-    ensures put { HasPut K.written out.old (hex_text (span_bits (span_in span) (bits_of held.now))) out.new result }
-    ensures kept { KeepsLines K.faults K.is_last out.old out.new result }
+    ensures { HasPut K.Sink out.old (hex_text (span_bits (span_in span) (bits_of held.now))) out.new result }
 {
     match held {
         Held::Bits(bits) => put_part(out, bits, span),
@@ -144,9 +136,8 @@ fn put_held<K: Sink>(out: &mut Lines<K>, held: &Held, span: Span) -> Result<(), 
 
 fn put_variable<K: Sink>(out: &mut Lines<K>, variables: &[Held], part: Part) -> Result<(), Failed>
     requires { IsWhole out.old }
-    ensures put { HasPut K.written out.old
+    ensures { HasPut K.Sink out.old
         (hex_text (span_bits (span_in part.span) (bits_in (slice_get variables.now part.array)))) out.new result }
-    ensures kept { KeepsLines K.faults K.is_last out.old out.new result }
 {
     match held_at(variables, part.array) {
         Some(held) => put_held(out, held, part.span),
@@ -159,8 +150,7 @@ fn put_number_text<K: Sink>(out: &mut Lines<K>, number: u64, len: u32) -> Result
     requires whole { IsWhole out.old }
     requires most { len ≤ 64 }
     requires fits { number < 2 ^ len }
-    ensures put { HasPut K.written out.old (hex_text (low_bits len number)) out.new result }
-    ensures kept { KeepsLines K.faults K.is_last out.old out.new result }
+    ensures { HasPut K.Sink out.old (hex_text (low_bits len number)) out.new result }
 {
     out.put(b"$")?;
     put_hex(out, number, len)?;
@@ -169,8 +159,7 @@ fn put_number_text<K: Sink>(out: &mut Lines<K>, number: u64, len: u32) -> Result
 
 fn put_integer<K: Sink>(out: &mut Lines<K>, z: i32) -> Result<(), Failed>
     requires { IsWhole out.old }
-    ensures put { HasPut K.written out.old (hex_text (bits_of_int z)) out.new result }
-    ensures kept { KeepsLines K.faults K.is_last out.old out.new result }
+    ensures { HasPut K.Sink out.old (hex_text (bits_of_int z)) out.new result }
 {
     put_number_text(out, u64::from(z.cast_unsigned()), 32)
 }
@@ -183,8 +172,7 @@ fn put_bits<K: Sink>(
     at: BitsAt,
 ) -> Result<(), Failed>
     requires { IsWhole out.old }
-    ensures put { HasPut K.written out.old (hex_text (bits_at literals.now variables.now at)) out.new result }
-    ensures kept { KeepsLines K.faults K.is_last out.old out.new result }
+    ensures { HasPut K.Sink out.old (hex_text (bits_at literals.now variables.now at)) out.new result }
 {
     match at {
         BitsAt::Literal(n) => put_literal(out, literals, n),
@@ -196,8 +184,7 @@ fn put_bits<K: Sink>(
 // Puts a value as it is exported.
 fn put_value<K: Sink>(out: &mut Lines<K>, value: Value) -> Result<(), Failed>
     requires { IsWhole out.old }
-    ensures put { HasPut K.written out.old (export_text (export_of value)) out.new result }
-    ensures kept { KeepsLines K.faults K.is_last out.old out.new result }
+    ensures { HasPut K.Sink out.old (export_text (export_of value)) out.new result }
 {
     match value {
         Value::Int(z) => out.put_int(i64::from(z)),
@@ -213,9 +200,8 @@ fn put_exported<K: Sink>(
     value: Exported,
 ) -> Result<(), Failed>
     requires { IsWhole out.old }
-    ensures put { HasPut K.written out.old
+    ensures { HasPut K.Sink out.old
         (export_text (value_exported literals.now variables.now value)) out.new result }
-    ensures kept { KeepsLines K.faults K.is_last out.old out.new result }
 {
     match value {
         Exported::Value(value) => put_value(out, value),
@@ -242,9 +228,8 @@ fn put_line<K: Sink>(
     value: Exported,
 ) -> Result<(), Failed>
     requires { IsWhole out.old }
-    ensures put { HasPut K.written out.old
+    ensures { HasPut K.Sink out.old
         (event_line (events.Export key.now (value_exported literals.now variables.now value))) out.new result }
-    ensures kept { KeepsLines K.faults K.is_last out.old out.new result }
 {
     out.put(b"X ")?;
     put_escaped(out, key)?;
@@ -264,9 +249,8 @@ pub fn put_export<K: Sink>(
     export: Export,
 ) -> Result<(), Failed>
     requires { IsWhole out.old }
-    ensures put { HasPut K.written out.old
+    ensures { HasPut K.Sink out.old
         (event_line (export_event (constants_of code.now) variables.now export)) out.new result }
-    ensures kept { KeepsLines K.faults K.is_last out.old out.new result }
 {
     let key = text_at(code.texts.as_slice(), export.key);
     put_line(out, key, code.literals.as_slice(), variables, export.value)
@@ -277,8 +261,7 @@ pub fn put_export<K: Sink>(
 /// `Failed` as of the sink.
 pub fn put_usec<K: Sink>(out: &mut Lines<K>, n: u32) -> Result<(), Failed>
     requires { IsWhole out.old }
-    ensures put { HasPut K.written out.old (event_line (Usec n)) out.new result }
-    ensures kept { KeepsLines K.faults K.is_last out.old out.new result }
+    ensures { HasPut K.Sink out.old (event_line (Usec n)) out.new result }
 {
     put_count_line(out, b"W ", n)
 }
@@ -288,8 +271,7 @@ pub fn put_usec<K: Sink>(out: &mut Lines<K>, n: u32) -> Result<(), Failed>
 /// `Failed` as of the sink.
 pub fn put_hertz<K: Sink>(out: &mut Lines<K>, n: u32) -> Result<(), Failed>
     requires { IsWhole out.old }
-    ensures put { HasPut K.written out.old (event_line (Hertz n)) out.new result }
-    ensures kept { KeepsLines K.faults K.is_last out.old out.new result }
+    ensures { HasPut K.Sink out.old (event_line (Hertz n)) out.new result }
 {
     put_count_line(out, b"F ", n)
 }
@@ -300,8 +282,7 @@ pub fn put_hertz<K: Sink>(out: &mut Lines<K>, n: u32) -> Result<(), Failed>
 #[tactic(auto, using(tool_io::proofs::PutLemmas::puts_nothing, tool_io::proofs::PutLemmas::put_then, tool_io::proofs::PutLemmas::put_then_front, tool_io::proofs::PutLemmas::front_with))]
 pub fn put_pins<K: Sink>(out: &mut Lines<K>, digits: &[u8]) -> Result<(), Failed>
     requires { IsWhole out.old }
-    ensures put { HasPut K.written out.old (pin_line digits.now) out.new result }
-    ensures kept { KeepsLines K.faults K.is_last out.old out.new result }
+    ensures { HasPut K.Sink out.old (pin_line digits.now) out.new result }
 {
     if digits.len() == 0 {
         return Ok(());
@@ -312,8 +293,7 @@ pub fn put_pins<K: Sink>(out: &mut Lines<K>, digits: &[u8]) -> Result<(), Failed
 // Puts the line of these digits of clocks.
 fn put_pin_line<K: Sink>(out: &mut Lines<K>, digits: &[u8]) -> Result<(), Failed>
     requires { IsWhole out.old }
-    ensures put { HasPut K.written out.old ((codes "C " ++ digits.now) ++ 10 ∷ []) out.new result }
-    ensures kept { KeepsLines K.faults K.is_last out.old out.new result }
+    ensures { HasPut K.Sink out.old ((codes "C " ++ digits.now) ++ 10 ∷ []) out.new result }
 {
     out.put(b"C ")?;
     out.put(digits)?;

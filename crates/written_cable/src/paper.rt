@@ -94,13 +94,13 @@ impl<K: Sink> Paper for Lines<'_, K> {
 
     ghost is_last = { IsLastOf K.is_last };
 
-    #[tactic(auto, using(crate::specs::PaperLaws::puts_on, crate::specs::PaperLaws::puts_front_on))]
+    #[tactic(auto, using(crate::specs::PaperLaws::puts_on, crate::specs::PaperLaws::puts_front_on, crate::specs::PaperLaws::puts_cause, crate::specs::PaperLaws::front_cause))]
     fn put_print(&mut self, text: &[u8]) -> Result<(), Failed> {
         line_writer::put_print(self, text)?;
         Ok(())
     }
 
-    #[tactic(auto, using(crate::specs::PaperLaws::puts_on, crate::specs::PaperLaws::puts_front_on))]
+    #[tactic(auto, using(crate::specs::PaperLaws::puts_on, crate::specs::PaperLaws::puts_front_on, crate::specs::PaperLaws::puts_cause, crate::specs::PaperLaws::front_cause))]
     fn put_export(
         &mut self,
         code: &CodeLists,
@@ -111,19 +111,19 @@ impl<K: Sink> Paper for Lines<'_, K> {
         Ok(())
     }
 
-    #[tactic(auto, using(crate::specs::PaperLaws::puts_on, crate::specs::PaperLaws::puts_front_on))]
+    #[tactic(auto, using(crate::specs::PaperLaws::puts_on, crate::specs::PaperLaws::puts_front_on, crate::specs::PaperLaws::puts_cause, crate::specs::PaperLaws::front_cause))]
     fn put_usec(&mut self, n: u32) -> Result<(), Failed> {
         line_writer::put_usec(self, n)?;
         Ok(())
     }
 
-    #[tactic(auto, using(crate::specs::PaperLaws::puts_on, crate::specs::PaperLaws::puts_front_on))]
+    #[tactic(auto, using(crate::specs::PaperLaws::puts_on, crate::specs::PaperLaws::puts_front_on, crate::specs::PaperLaws::puts_cause, crate::specs::PaperLaws::front_cause))]
     fn put_hertz(&mut self, n: u32) -> Result<(), Failed> {
         line_writer::put_hertz(self, n)?;
         Ok(())
     }
 
-    #[tactic(auto, using(crate::specs::PaperLaws::puts_on, crate::specs::PaperLaws::puts_front_on))]
+    #[tactic(auto, using(crate::specs::PaperLaws::puts_on, crate::specs::PaperLaws::puts_front_on, crate::specs::PaperLaws::puts_cause, crate::specs::PaperLaws::front_cause))]
     fn put_pins(&mut self, digits: &[u8]) -> Result<(), Failed> {
         line_writer::put_pins(self, digits)?;
         Ok(())

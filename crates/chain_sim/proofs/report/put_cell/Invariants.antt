@@ -1,18 +1,14 @@
 use Rattle.std.proofs.Common.{◌≤◌, length, take}
 use Rattle.bit_list.specs.Hexadecimal.{all_hex_digits}
 use Rattle.dev_card.specs.Sound.{card_in}
-use Rattle.tool_io.specs.Lines.{IsWhole, IsOverSame, SinkNeverFalls}
 use Rattle.chain_sim.specs.Reports.{cell_in, PutsBut}
 use Rattle.chain_sim.proofs.report.put_cell.Given as goal
 
 abbrev pub invariant-down : goal.invariant-down
 invariant-down g l = record {
-  same_sink : IsOverSame l.fn.out l.out;
-  whole : IsWhole l.out;
   inside : l.left ≤ length (cell_in (card_in (g.D.Device.fitted l.device)) l.cell);
-  puts : PutsBut g.K.Sink.written (all_hex_digits (cell_in (card_in (g.D.Device.fitted l.device)) l.cell)) l.fn.out
+  puts : PutsBut g.K.Sink (all_hex_digits (cell_in (card_in (g.D.Device.fitted l.device)) l.cell)) l.fn.out
       (all_hex_digits (take l.left (cell_in (card_in (g.D.Device.fitted l.device)) l.cell))) l.out;
-  kept : SinkNeverFalls g.K.Sink.faults g.K.Sink.is_last l.fn.out l.out;
 }
 
 abbrev pub decreases-down : goal.decreases-down

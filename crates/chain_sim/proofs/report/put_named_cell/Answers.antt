@@ -1,18 +1,18 @@
 use Rattle.bit_list.specs.Hexadecimal.{all_hex_digits}
 use Rattle.dev_card.specs.Sound.{card_in}
-use Rattle.tool_io.proofs.PutLemmas.{put_then, put_then_front, front_with, put_failed, put_done}
+use Rattle.tool_io.proofs.PutLemmas.{put_then, put_then_front, front_with, put_failed}
 use Rattle.chain_sim.specs.Reports.{cell_in}
 use Rattle.chain_sim.proofs.report.put_named_cell.Goals as goal
 
-pub returns-in_err-put_name-clause-put : goal.returns-in_err-put_name-clause-put
-returns-in_err-put_name-clause-put g c =
+pub returns-in_err-put_name : goal.returns-in_err-put_name
+returns-in_err-put_name g c =
     put_failed c.from_residual.result c.from_residual.ensures.0
-    (front_with (all_hex_digits (cell_in (card_in (g.D.Device.fitted c.args.device.now)) c.args.cell)) c.in_err-put_name.ensures.put.front)
+    (front_with (all_hex_digits (cell_in (card_in (g.D.Device.fitted c.args.device.now)) c.args.cell)) c.in_err-put_name.ensures)
 
-pub returns-in_err-put_cell-clause-put : goal.returns-in_err-put_cell-clause-put
-returns-in_err-put_cell-clause-put g c =
+pub returns-in_err-put_cell : goal.returns-in_err-put_cell
+returns-in_err-put_cell g c =
     put_failed c.from_residual-in_err-put_cell.result c.from_residual-in_err-put_cell.ensures.0
-    (put_then_front c.in_ok-put_name.ensures.put.ok c.in_err-put_cell.ensures.put.front)
+    (put_then_front c.in_ok-put_name.ensures c.in_err-put_cell.ensures)
 
-pub returns-clause-put : goal.returns-clause-put
-returns-clause-put g c = put_done (put_then c.in_ok-put_name.ensures.put.ok c.in_ok-put_cell.ensures.put.ok)
+pub returns : goal.returns
+returns g c = put_then c.in_ok-put_name.ensures c.in_ok-put_cell.ensures

@@ -2,8 +2,7 @@ use Rattle.std.proofs.Common.{rules, ◌+◌, drop, refl, get_or, [], arith}
 use Rattle.bit_list.specs.Hexadecimal.{all_hex_digits}
 use Rattle.dev_card.specs.Reports.{named_text, registers_text}
 use Rattle.dev_card.specs.Sound.{card_in}
-use Rattle.tool_io.proofs.CauseLemmas.{kept_start, kept_then}
-use Rattle.tool_io.proofs.PutLemmas.{put_failed, put_done}
+use Rattle.tool_io.proofs.PutLemmas.{put_failed}
 use Rattle.chain_sim.specs.Reports.{cells_in}
 use Rattle.chain_sim.proofs.PutParts.{nothing_put, part_put, part_failed, all_put}
 use Rattle.chain_sim.proofs.ReportCards.{register_more, registers_end}
@@ -13,10 +12,7 @@ pub loop-i-init : goal.loop-i-init
 loop-i-init g c =
     let whole = registers_text c.args.registers.now (cells_in (card_in (g.D.Device.fitted c.args.device.now))) in
     record {
-      same_sink = refl;
-      whole = c.requires.whole;
-      puts = nothing_put whole c.args.out.now whole refl;
-      kept = kept_start _ _;
+      puts = nothing_put whole c.args.out.now whole c.requires.whole refl;
     }
 
 pub put_named_cell-requires-clause-cell : goal.put_named_cell-requires-clause-cell
@@ -28,18 +24,15 @@ loop-i-preserved g c =
     let registers = c.args.registers.now in
     let i = c.loop-i.i in
     record {
-      same_sink = search rules;
-      whole = search rules;
       puts = part_put (registers_text registers cells) (registers_text (drop i registers) (drop i cells))
           (named_text c.bytes.result.now (all_hex_digits (get_or cells i [])))
           (registers_text (drop (i + 1) registers) (drop (i + 1) cells))
           (register_more registers cells i c.index-registers-i.result c.bytes.result.now (omega arith) c.requires.cells c.bytes.ensures.value)
-          c.loop-i.invariant.puts c.in_ok-put_named_cell.ensures.put.ok;
-      kept = kept_then c.loop-i.invariant.kept c.in_ok-put_named_cell.ensures.kept.cause.kept;
+          c.loop-i.invariant.puts c.in_ok-put_named_cell.ensures;
     }
 
-pub returns-in_err-put_named_cell-clause-put : goal.returns-in_err-put_named_cell-clause-put
-returns-in_err-put_named_cell-clause-put g c =
+pub returns-in_err-put_named_cell : goal.returns-in_err-put_named_cell
+returns-in_err-put_named_cell g c =
     let cells = cells_in (card_in (g.D.Device.fitted c.args.device.now)) in
     let registers = c.args.registers.now in
     let i = c.loop-i.i in
@@ -48,11 +41,11 @@ returns-in_err-put_named_cell-clause-put g c =
     (named_text c.bytes.result.now (all_hex_digits (get_or cells i [])))
     (registers_text (drop (i + 1) registers) (drop (i + 1) cells))
     (register_more registers cells i c.index-registers-i.result c.bytes.result.now (omega arith) c.requires.cells c.bytes.ensures.value)
-    c.loop-i.invariant.puts c.in_err-put_named_cell.ensures.put.front)
+    c.loop-i.invariant.puts c.in_err-put_named_cell.ensures)
 
-pub returns-clause-put : goal.returns-clause-put
-returns-clause-put g c =
+pub returns : goal.returns
+returns g c =
     let cells = cells_in (card_in (g.D.Device.fitted c.args.device.now)) in
     let registers = c.args.registers.now in
-    put_done (all_put (registers_text registers cells) (registers_text (drop c.loop-i.i registers) (drop c.loop-i.i cells))
-    (registers_end registers cells c.loop-i.i (omega arith)) c.loop-i.invariant.puts)
+    all_put (registers_text registers cells) (registers_text (drop c.loop-i.i registers) (drop c.loop-i.i cells))
+    (registers_end registers cells c.loop-i.i (omega arith)) c.loop-i.invariant.puts

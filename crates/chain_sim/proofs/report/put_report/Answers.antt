@@ -1,7 +1,6 @@
 use Rattle.std.proofs.Common.{rules, ◌+◌, map, drop, refl, arith}
 use Rattle.dev_card.specs.Sound.{card_in}
-use Rattle.tool_io.proofs.CauseLemmas.{kept_start, kept_then}
-use Rattle.tool_io.proofs.PutLemmas.{put_failed, put_done}
+use Rattle.tool_io.proofs.PutLemmas.{put_failed}
 use Rattle.chain_sim.specs.Places.{cards_at}
 use Rattle.chain_sim.specs.Reports.{line_in, report_in}
 use Rattle.chain_sim.proofs.PutParts.{nothing_put, part_put, part_failed, all_put}
@@ -12,10 +11,7 @@ pub loop-i-init : goal.loop-i-init
 loop-i-init g c =
     let whole = report_in (cards_at (map g.D.Device.fitted c.args.rack.now) c.args.places.now) in
     record {
-      same_sink = refl;
-      whole = c.requires.whole;
-      puts = nothing_put whole c.args.out.now whole refl;
-      kept = kept_start _ _;
+      puts = nothing_put whole c.args.out.now whole c.requires.whole refl;
     }
 
 pub bounds-places-i : goal.bounds-places-i
@@ -47,18 +43,15 @@ loop-i-preserved g c =
     let places = c.args.places.now in
     let i = c.loop-i.i in
     record {
-      same_sink = search rules;
-      whole = search rules;
       puts = part_put (report_in (cards_at rack places)) (report_in (cards_at rack (drop i places)))
           (line_in (card_in (g.D.Device.fitted c.index-rack-place.result)))
           (report_in (cards_at rack (drop (i + 1) places)))
           (line_more g.D.Device.fitted c.args.rack.now places c.args.descs.now i c.index-descs-i.result c.requires.board (omega arith) c.index-descs-i.is
-          c.index-rack-place.result c.index-rack-place.is) c.loop-i.invariant.puts c.in_ok-put_line.ensures.put.ok;
-      kept = kept_then c.loop-i.invariant.kept c.in_ok-put_line.ensures.kept.cause.kept;
+          c.index-rack-place.result c.index-rack-place.is) c.loop-i.invariant.puts c.in_ok-put_line.ensures;
     }
 
-pub returns-in_err-put_line-clause-put : goal.returns-in_err-put_line-clause-put
-returns-in_err-put_line-clause-put g c =
+pub returns-in_err-put_line : goal.returns-in_err-put_line
+returns-in_err-put_line g c =
     let rack = map g.D.Device.fitted c.args.rack.now in
     let places = c.args.places.now in
     let i = c.loop-i.i in
@@ -67,12 +60,11 @@ returns-in_err-put_line-clause-put g c =
     (line_in (card_in (g.D.Device.fitted c.index-rack-place.result)))
     (report_in (cards_at rack (drop (i + 1) places)))
     (line_more g.D.Device.fitted c.args.rack.now places c.args.descs.now i c.index-descs-i.result c.requires.board (omega arith) c.index-descs-i.is
-    c.index-rack-place.result c.index-rack-place.is) c.loop-i.invariant.puts c.in_err-put_line.ensures.put.front)
+    c.index-rack-place.result c.index-rack-place.is) c.loop-i.invariant.puts c.in_err-put_line.ensures)
 
-pub returns-clause-put : goal.returns-clause-put
-returns-clause-put g c =
+pub returns : goal.returns
+returns g c =
     let rack = map g.D.Device.fitted c.args.rack.now in
     let places = c.args.places.now in
-    put_done
     (all_put (report_in (cards_at rack places)) (report_in (cards_at rack (drop c.loop-i.i places)))
     (report_end rack places c.loop-i.i (omega (arith, same_count rack places c.args.descs.now c.requires.board))) c.loop-i.invariant.puts)

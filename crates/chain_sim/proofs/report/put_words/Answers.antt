@@ -1,8 +1,7 @@
 use Rattle.std.proofs.Common.{rules, ◌+◌, drop, refl, get_or, [], arith}
 use Rattle.dev_card.specs.Reports.{word_text, words_text}
 use Rattle.dev_card.specs.Sound.{card_in}
-use Rattle.tool_io.proofs.CauseLemmas.{kept_start, kept_then}
-use Rattle.tool_io.proofs.PutLemmas.{put_failed, put_done}
+use Rattle.tool_io.proofs.PutLemmas.{put_failed}
 use Rattle.chain_sim.specs.Reports.{cells_in}
 use Rattle.chain_sim.proofs.PutParts.{nothing_put, part_put, part_failed, all_put}
 use Rattle.chain_sim.proofs.ReportCards.{word_more, words_end}
@@ -12,11 +11,8 @@ pub loop-number-init : goal.loop-number-init
 loop-number-init g c =
     let whole = words_text 0 (drop 1 (cells_in (card_in (g.D.Device.fitted c.args.device.now)))) in
     record {
-      same_sink = refl;
-      whole = c.requires.whole;
       end = omega arith;
-      puts = nothing_put whole c.args.out.now whole refl;
-      kept = kept_start _ _;
+      puts = nothing_put whole c.args.out.now whole c.requires.whole refl;
     }
 
 pub put_word-requires-clause-cell : goal.put_word-requires-clause-cell
@@ -27,28 +23,24 @@ loop-number-preserved g c =
     let cells = cells_in (card_in (g.D.Device.fitted c.args.device.now)) in
     let a = c.loop-number.number in
     record {
-      same_sink = search rules;
-      whole = search rules;
       end = c.loop-number.invariant.end;
       puts = part_put (words_text 0 (drop 1 cells)) (words_text a (drop (a + 1) cells))
           (word_text a (get_or cells (a + 1) [])) (words_text (a + 1) (drop (a + 1 + 1) cells))
-          (word_more cells a (omega (arith, c.loop-number.invariant.end))) c.loop-number.invariant.puts c.in_ok-put_word.ensures.put.ok;
-      kept = kept_then c.loop-number.invariant.kept c.in_ok-put_word.ensures.kept.cause.kept;
+          (word_more cells a (omega (arith, c.loop-number.invariant.end))) c.loop-number.invariant.puts c.in_ok-put_word.ensures;
     }
 
-pub returns-in_err-put_word-clause-put : goal.returns-in_err-put_word-clause-put
-returns-in_err-put_word-clause-put g c =
+pub returns-in_err-put_word : goal.returns-in_err-put_word
+returns-in_err-put_word g c =
     let cells = cells_in (card_in (g.D.Device.fitted c.args.device.now)) in
     let a = c.loop-number.number in
     put_failed c.from_residual.result c.from_residual.ensures.0
     (part_failed (words_text 0 (drop 1 cells)) (words_text a (drop (a + 1) cells))
     (word_text a (get_or cells (a + 1) [])) (words_text (a + 1) (drop (a + 1 + 1) cells))
-    (word_more cells a (omega (arith, c.loop-number.invariant.end))) c.loop-number.invariant.puts c.in_err-put_word.ensures.put.front)
+    (word_more cells a (omega (arith, c.loop-number.invariant.end))) c.loop-number.invariant.puts c.in_err-put_word.ensures)
 
-pub returns-clause-put : goal.returns-clause-put
-returns-clause-put g c =
+pub returns : goal.returns
+returns g c =
     let cells = cells_in (card_in (g.D.Device.fitted c.args.device.now)) in
     let a = c.loop-number.number in
-    put_done
     (all_put (words_text 0 (drop 1 cells)) (words_text a (drop (a + 1) cells))
     (words_end cells a (omega (arith, c.loop-number.invariant.end))) c.loop-number.invariant.puts)

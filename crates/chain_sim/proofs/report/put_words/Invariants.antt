@@ -1,16 +1,12 @@
 use Rattle.std.proofs.Common.{◌≡◌, ◌+◌, length, drop}
 use Rattle.dev_card.specs.Reports.{words_text}
 use Rattle.dev_card.specs.Sound.{card_in}
-use Rattle.tool_io.specs.Lines.{IsWhole, IsOverSame, SinkNeverFalls}
 use Rattle.chain_sim.specs.Reports.{cells_in, PutsBut}
 use Rattle.chain_sim.proofs.report.put_words.Given as goal
 
 abbrev pub invariant-loop-number : goal.invariant-loop-number
 invariant-loop-number g l = record {
-  same_sink : IsOverSame l.fn.out l.out;
-  whole : IsWhole l.out;
   end : l.number-end + 1 ≡ length (cells_in (card_in (g.D.Device.fitted l.device)));
-  puts : PutsBut g.K.Sink.written (words_text 0 (drop 1 (cells_in (card_in (g.D.Device.fitted l.device))))) l.fn.out
+  puts : PutsBut g.K.Sink (words_text 0 (drop 1 (cells_in (card_in (g.D.Device.fitted l.device))))) l.fn.out
       (words_text l.number (drop (l.number + 1) (cells_in (card_in (g.D.Device.fitted l.device))))) l.out;
-  kept : SinkNeverFalls g.K.Sink.faults g.K.Sink.is_last l.fn.out l.out;
 }

@@ -17,7 +17,7 @@ returns-in-Ok-clause-says g c =
 
 pub returns-in-Ok-clause-rack : goal.returns-in-Ok-clause-rack
 returns-in-Ok-clause-rack g c =
-    rack_played g.K.Sink.written c.args.task.now.request.now (task_play c.args.code.now c.deref.result.now c.args.task.now) _ _ c.play_on_board.result
+    rack_played g.K.Sink c.args.task.now.request.now (task_play c.args.code.now c.deref.result.now c.args.task.now) _ _ c.play_on_board.result
     c.play_on_board.ensures.says c.play_on_board.ensures.kinds c.play_on_board.ensures.left
     (code_left_final
     (code_play_of c.args.task.now c.args.code.now c.deref.result.now (c.in-Ok.ensures.ok ∙ ap chosen (sym c.deref.ensures.value)) (sym c.has_place.ensures ∙ c.if-has_place.true)))
@@ -25,26 +25,26 @@ returns-in-Ok-clause-rack g c =
 pub returns-in_err-put-in-Ok-2-clause-says : goal.returns-in_err-put-in-Ok-2-clause-says
 returns-in_err-put-in-Ok-2-clause-says g c =
     says_failed _ _ _ _ _ c.from_residual.result c.from_residual.ensures.1
-    (said_front (codes "R place\n") BadPlace (bad_place _ c.in-Ok-2.ensures.ok (sym c.has_place.ensures ∙ c.if-has_place.false)) c.in_err-put-in-Ok-2.ensures.put.front)
+    (said_front (codes "R place\n") BadPlace (bad_place _ c.in-Ok-2.ensures.ok (sym c.has_place.ensures ∙ c.if-has_place.false)) c.in_err-put-in-Ok-2.ensures.put)
 
 pub returns-in_ok-put-in-Ok-2-clause-says : goal.returns-in_ok-put-in-Ok-2-clause-says
 returns-in_ok-put-in-Ok-2-clause-says g c =
-    said_text (codes "R place\n") (bad_place _ c.in-Ok-2.ensures.ok (sym c.has_place.ensures ∙ c.if-has_place.false)) c.in_ok-put-in-Ok-2.ensures.put.ok
+    said_text (codes "R place\n") (bad_place _ c.in-Ok-2.ensures.ok (sym c.has_place.ensures ∙ c.if-has_place.false)) c.in_ok-put-in-Ok-2.ensures.put
 
 pub returns-in_err-put-in-Err-NoAction-clause-says : goal.returns-in_err-put-in-Err-NoAction-clause-says
 returns-in_err-put-in-Err-NoAction-clause-says g c =
     says_failed _ _ _ _ _ c.from_residual-in_err-put-in-Err-NoAction.result c.from_residual-in_err-put-in-Err-NoAction.ensures.1
-    (said_front (codes "R action\n") NoAction (no_action (c.in-Err-NoAction.ensures.action (ap Err c.in-Err-NoAction.field-0-is))) c.in_err-put-in-Err-NoAction.ensures.put.front)
+    (said_front (codes "R action\n") NoAction (no_action (c.in-Err-NoAction.ensures.action (ap Err c.in-Err-NoAction.field-0-is))) c.in_err-put-in-Err-NoAction.ensures.put)
 
 pub returns-in_ok-put-in-Err-NoAction-clause-says : goal.returns-in_ok-put-in-Err-NoAction-clause-says
 returns-in_ok-put-in-Err-NoAction-clause-says g c =
-    said_text (codes "R action\n") (no_action (c.in-Err-NoAction.ensures.action (ap Err c.in-Err-NoAction.field-0-is))) c.in_ok-put-in-Err-NoAction.ensures.put.ok
+    said_text (codes "R action\n") (no_action (c.in-Err-NoAction.ensures.action (ap Err c.in-Err-NoAction.field-0-is))) c.in_ok-put-in-Err-NoAction.ensures.put
 
 pub returns-in_err-put-in-Err-BadChoice-clause-says : goal.returns-in_err-put-in-Err-BadChoice-clause-says
 returns-in_err-put-in-Err-BadChoice-clause-says g c =
     says_failed _ _ _ _ _ c.from_residual-in_err-put-in-Err-BadChoice.result c.from_residual-in_err-put-in-Err-BadChoice.ensures.1
-    (said_front (codes "R choice\n") BadChoice (bad_choice (c.in-Err-BadChoice.ensures.choice (ap Err c.in-Err-BadChoice.field-0-is))) c.in_err-put-in-Err-BadChoice.ensures.put.front)
+    (said_front (codes "R choice\n") BadChoice (bad_choice (c.in-Err-BadChoice.ensures.choice (ap Err c.in-Err-BadChoice.field-0-is))) c.in_err-put-in-Err-BadChoice.ensures.put)
 
 pub returns-in_ok-put-in-Err-BadChoice-clause-says : goal.returns-in_ok-put-in-Err-BadChoice-clause-says
 returns-in_ok-put-in-Err-BadChoice-clause-says g c =
-    said_text (codes "R choice\n") (bad_choice (c.in-Err-BadChoice.ensures.choice (ap Err c.in-Err-BadChoice.field-0-is))) c.in_ok-put-in-Err-BadChoice.ensures.put.ok
+    said_text (codes "R choice\n") (bad_choice (c.in-Err-BadChoice.ensures.choice (ap Err c.in-Err-BadChoice.field-0-is))) c.in_ok-put-in-Err-BadChoice.ensures.put

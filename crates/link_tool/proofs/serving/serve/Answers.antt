@@ -1,19 +1,35 @@
 use Rattle.std.proofs.Common.{◌∙◌, ◌++◌, sym, refl, take, drop, arith}
 use Rattle.std.proofs.lemmas.List.{take-append-drop}
-use Rattle.tool_io.proofs.CauseLemmas.{kept_then, counts_then}
+use Rattle.tool_io.proofs.CauseLemmas.{counts_start, counts_then}
 use Rattle.link_tool.specs.Sessions.{most_bytes}
-use Rattle.link_tool.proofs.ServingLemmas.{after_read, after_all, after_feed, with_left, none_read, none_left, taken_more, of_board, goes_on, fits, is_full, fed_whole, is_fewer}
+use Rattle.link_tool.proofs.ServingLemmas.{begins, after_read, after_all, after_feed, with_left, none_read, none_left, taken_more, of_board, goes_on, fits, is_full, fed_whole, is_fewer}
 use Rattle.link_tool.proofs.ServingLemmas.{stop_read, stop_end, stop_write, stops, failed_as}
 use Rattle.link_tool.proofs.serving.serve.Goals as goal
 
+pub pieces-init : goal.pieces-init
+pieces-init g c = record {
+  told = refl;
+  reads = λ name r. r;
+  kept = counts_start _ _;
+  fitted = c.requires.fitted;
+  kinds = refl;
+  open_now = rw c.new-session.ensures refl;
+  few = rw c.new-session.ensures (omega arith);
+  empty = c.requires.empty;
+  serving = λ cs e. rw c.new-session.ensures (begins cs _ _ g.K.Sink c.args.lines.now _ c.requires.whole e);
+}
+
+pub feed-requires-clause-whole : goal.feed-requires-clause-whole
+feed-requires-clause-whole g c = of_board _ c.requires.fitted (λ cs e. (c.pieces.invariant.serving cs e).puts.whole)
+
 pub returns-in_default-clause-served : goal.returns-in_default-clause-served
-returns-in_default-clause-served g c = λ cs e. stop_read (c.pieces.invariant.serving cs e) refl
+returns-in_default-clause-served g c = λ cs e. stop_read (c.pieces.invariant.serving cs e) c.pieces.invariant.empty
 
 pub returns-then-is_empty-clause-served : goal.returns-then-is_empty-clause-served
 returns-then-is_empty-clause-served g c = λ cs e.
     let none = none_read c.in-Ok.n c.read.new.into c.is_empty.result c.in-Ok.ensures.bound c.is_empty.ensures c.if-is_empty.true in
     stop_end (after_all (g.S.Shelf.left c.read.new.self) c.read.new.into c.in-Ok.n none (rw c.pieces.invariant.told at c.in-Ok.ensures.bytes) (c.pieces.invariant.serving cs e))
-    c.pieces.invariant.open_now
+    c.pieces.invariant.empty c.pieces.invariant.open_now
 
 pub returns-in_err-feed-clause-served : goal.returns-in_err-feed-clause-served
 returns-in_err-feed-clause-served g c = λ cs e.
@@ -24,7 +40,7 @@ returns-in_err-feed-clause-served g c = λ cs e.
     let read = after_read rest c.read.new.into c.in-Ok.n (take room piece) (drop room piece) (rw inv.told at c.in-Ok.ensures.bytes) (sym (take-append-drop room piece)) (inv.serving cs e) in
     failed_as c.from_residual.result c.from_residual.ensures.1
     (stop_write (drop room piece ++ rest) c.feed.result c.in_err-feed.field-0.0 c.in_err-feed.was inv.open_now
-    (fits c.pieces.session.taken most_bytes c.room.result room piece c.min-room.ensures c.room.ensures inv.few) refl c.feed.ensures.taken read)
+    (fits c.pieces.session.taken most_bytes c.room.result room piece c.min-room.ensures c.room.ensures inv.few) c.feed.ensures.taken read)
 
 pub returns-in-Some-clause-served : goal.returns-in-Some-clause-served
 returns-in-Some-clause-served g c = λ cs e.
@@ -34,8 +50,8 @@ returns-in-Some-clause-served g c = λ cs e.
     let inv = c.pieces.invariant in
     let read = after_read rest c.read.new.into c.in-Ok.n (take room piece) (drop room piece) (rw inv.told at c.in-Ok.ensures.bytes) (sym (take-append-drop room piece)) (inv.serving cs e) in
     let fed = after_feed c.feed.result c.in_ok-feed.field-0 c.in_ok-feed.was inv.open_now
-    (fits c.pieces.session.taken most_bytes c.room.result room piece c.min-room.ensures c.room.ensures inv.few) refl c.feed.ensures.taken read in
-    stops fed _ c.in-Some.status
+    (fits c.pieces.session.taken most_bytes c.room.result room piece c.min-room.ensures c.room.ensures inv.few) c.feed.ensures.taken read in
+    stops fed c.in_ok-feed.ensures.empty _ c.in-Some.status
     (λ more open_now. is_full c.pieces.session.taken most_bytes c.room.result room piece c.min-room.ensures c.room.ensures inv.few c.feed.new.self.taken rest
     (of_board _ inv.fitted (λ cs e. taken_more (c.feed.ensures.taken cs e) inv.open_now open_now)) more)
     (sym c.status.ensures ∙ c.in-Some.is)
@@ -64,12 +80,9 @@ pieces-preserved g c =
       kinds = c.feed.ensures.kinds ∙ inv.kinds;
       open_now = on.0;
       few = omega (arith, c.feed.ensures.few, fit);
-      whole = c.in_ok-feed.ensures.kept.whole;
       empty = c.in_ok-feed.ensures.empty;
-      same_sink = c.in_ok-feed.ensures.kept.same_sink ∙ inv.same_sink;
-      later = kept_then inv.later c.in_ok-feed.ensures.kept.cause.kept;
       serving = λ cs e.
           let read = after_read rest c.read.new.into c.in-Ok.n (take room piece) (drop room piece) (rw inv.told at c.in-Ok.ensures.bytes) (sym (take-append-drop room piece)) (inv.serving cs e) in
           with_left (none_left room piece rest (fed_whole c.pieces.session.taken most_bytes c.room.result room piece c.min-room.ensures c.room.ensures inv.few on.1))
-          (after_feed c.feed.result c.in_ok-feed.field-0 c.in_ok-feed.was inv.open_now fit refl c.feed.ensures.taken read);
+          (after_feed c.feed.result c.in_ok-feed.field-0 c.in_ok-feed.was inv.open_now fit c.feed.ensures.taken read);
     }

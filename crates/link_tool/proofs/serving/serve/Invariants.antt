@@ -1,7 +1,7 @@
 use Rattle.std.proofs.Common.{◌≡◌, ◌≤◌, ◌-◌, ℕ, List, [], map, true, Some}
 use Rattle.std.specs.Prelude.{IsSome}
 use Rattle.tool_io.specs.Causes.{NoneFalls}
-use Rattle.tool_io.specs.Lines.{gathered, taken, IsWhole, IsOverSame, SinkNeverFalls}
+use Rattle.tool_io.specs.Lines.{gathered}
 use Rattle.dev_card.specs.Card.{Card}
 use Rattle.chain_sim.specs.Places.{cards_at}
 use Rattle.link_server.specs.Runs.{is_open}
@@ -18,13 +18,10 @@ invariant-pieces g l = record {
   kinds : map g.D.Device.kind_of l.rack.items ≡ map g.D.Device.kind_of l.fn.rack.items;
   open_now : is_open l.session.link.state ≡ true;
   few : l.session.taken ≤ most_bytes;
-  whole : IsWhole l.lines;
   empty : gathered l.lines ≡ [];
-  same_sink : IsOverSame l.fn.lines l.lines;
-  later : SinkNeverFalls g.K.Sink.faults g.K.Sink.is_last l.fn.lines l.lines;
   serving : (cs : List Card) → cards_at (map g.D.Device.fitted l.fn.rack.items) l.places ≡ Some cs →
       IsServing cs (g.S.Shelf.told l.fn.shelf) (g.S.Shelf.left l.fn.shelf) (g.S.Shelf.left l.shelf)
-      (taken g.K.Sink.written l.fn.lines) (taken g.K.Sink.written l.lines) l.session (cards_at (map g.D.Device.fitted l.rack.items) l.places);
+      g.K.Sink l.fn.lines l.lines l.session (cards_at (map g.D.Device.fitted l.rack.items) l.places);
 }
 
 abbrev pub decreases-pieces : goal.decreases-pieces

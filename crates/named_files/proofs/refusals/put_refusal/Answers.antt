@@ -1,24 +1,24 @@
 use Rattle.std.proofs.Common.{codes}
 use Rattle.stapl_lexer.specs.Reasons.{reason_name}
 use Rattle.tool_io.specs.Texts.{word_line}
-use Rattle.tool_io.proofs.PutLemmas.{put_then, put_then_front, front_with, put_failed, put_done}
+use Rattle.tool_io.proofs.PutLemmas.{put_then, put_then_front, front_with, put_failed}
 use Rattle.named_files.proofs.refusals.put_refusal.Goals as goal
 
-pub returns-in_err-put_place-clause-put : goal.returns-in_err-put_place-clause-put
-returns-in_err-put_place-clause-put g c =
+pub returns-in_err-put_place : goal.returns-in_err-put_place
+returns-in_err-put_place g c =
     put_failed c.from_residual.result c.from_residual.ensures.0
-    (front_with (word_line (reason_name c.args.reason)) (front_with (codes " ") c.in_err-put_place.ensures.put.front))
+    (front_with (word_line (reason_name c.args.reason)) (front_with (codes " ") c.in_err-put_place.ensures))
 
-pub returns-in_err-put-clause-put : goal.returns-in_err-put-clause-put
-returns-in_err-put-clause-put g c =
+pub returns-in_err-put : goal.returns-in_err-put
+returns-in_err-put g c =
     put_failed c.from_residual-in_err-put.result c.from_residual-in_err-put.ensures.0
-    (front_with (word_line (reason_name c.args.reason)) (put_then_front c.in_ok-put_place.ensures.put.ok c.in_err-put.ensures.put.front))
+    (front_with (word_line (reason_name c.args.reason)) (put_then_front c.in_ok-put_place.ensures c.in_err-put.ensures.put))
 
-pub returns-in_err-put_word_line-clause-put : goal.returns-in_err-put_word_line-clause-put
-returns-in_err-put_word_line-clause-put g c =
+pub returns-in_err-put_word_line : goal.returns-in_err-put_word_line
+returns-in_err-put_word_line g c =
     put_failed c.from_residual-in_err-put_word_line.result c.from_residual-in_err-put_word_line.ensures.0
-    (put_then_front (put_then c.in_ok-put_place.ensures.put.ok c.in_ok-put.ensures.put.ok) (rw c.name.ensures at c.in_err-put_word_line.ensures.put.front))
+    (put_then_front (put_then c.in_ok-put_place.ensures c.in_ok-put.ensures.put) (rw c.name.ensures at c.in_err-put_word_line.ensures))
 
-pub returns-clause-put : goal.returns-clause-put
-returns-clause-put g c =
-    put_done (put_then (put_then c.in_ok-put_place.ensures.put.ok c.in_ok-put.ensures.put.ok) (rw c.name.ensures at c.in_ok-put_word_line.ensures.put.ok))
+pub returns : goal.returns
+returns g c =
+    put_then (put_then c.in_ok-put_place.ensures c.in_ok-put.ensures.put) (rw c.name.ensures at c.in_ok-put_word_line.ensures)

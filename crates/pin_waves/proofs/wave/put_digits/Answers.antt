@@ -1,6 +1,5 @@
-use Rattle.std.proofs.Common.{rules, get_or, map, refl, ap, ◌∙◌, arith}
-use Rattle.tool_io.proofs.CauseLemmas.{kept_start, kept_then}
-use Rattle.tool_io.proofs.PutLemmas.{put_failed, put_done, puts_same}
+use Rattle.std.proofs.Common.{get_or, map, refl, ap, ◌∙◌, arith}
+use Rattle.tool_io.proofs.PutLemmas.{put_failed, puts_same}
 use Rattle.pin_waves.specs.Items.{Clocked}
 use Rattle.pin_waves.specs.Waves.{items_text, after_items}
 use Rattle.pin_waves.proofs.WaveLemmas.{none_clocked, clocked_so_far, clock_put, clock_failed, all_clocked}
@@ -8,15 +7,12 @@ use Rattle.pin_waves.proofs.wave.put_digits.Goals as goal
 
 pub clocks-init : goal.clocks-init
 clocks-init g c = record {
-  same_sink = refl;
-  whole = c.requires.whole;
-  clocked = none_clocked g.K.Sink.written c.args.digits.now c.args.lines.now c.args.wave;
-  kept = kept_start _ _;
+  clocked = none_clocked g.K.Sink c.args.digits.now c.args.lines.now c.args.wave c.requires.whole;
 }
 
 pub put_clock-requires-clause-small : goal.put_clock-requires-clause-small
 put_clock-requires-clause-small g c =
-    let far = clocked_so_far g.K.Sink.written c.args.digits.now c.clocks.invariant.clocked in
+    let far = clocked_so_far g.K.Sink c.args.digits.now c.clocks.invariant.clocked in
     let small = c.requires.small in
     let lt = c.clocks-test.true in
     omega (arith, far, small, lt)
@@ -24,24 +20,21 @@ put_clock-requires-clause-small g c =
 pub returns-in_err-after-clause-put : goal.returns-in_err-after-clause-put
 returns-in_err-after-clause-put g c =
     put_failed c.from_residual.result c.from_residual.ensures.0
-    (clock_failed g.K.Sink.written c.args.digits.now c.args.lines.now c.clocks.lines c.args.wave c.clocks.n (get_or c.args.digits.now c.clocks.n 0) c.clocks.after
-    c.clocks.invariant.clocked c.clocks-test.true refl _ c.in_err-after.ensures.put.front)
+    (clock_failed g.K.Sink c.args.digits.now c.args.lines.now c.clocks.lines c.args.wave c.clocks.n (get_or c.args.digits.now c.clocks.n 0) c.clocks.after
+    c.clocks.invariant.clocked c.clocks-test.true refl _ c.in_err-after.ensures.put)
 
 pub clocks-preserved : goal.clocks-preserved
 clocks-preserved g c = record {
-  same_sink = search rules;
-  whole = search rules;
-  clocked = clock_put g.K.Sink.written c.args.digits.now c.args.lines.now c.clocks.lines c.args.wave c.clocks.n (get_or c.args.digits.now c.clocks.n 0) c.clocks.after
-      c.clocks.invariant.clocked c.clocks-test.true refl _ _ c.in_ok-after.ensures.put.ok c.in_ok-after.ensures.next;
-  kept = kept_then c.clocks.invariant.kept c.in_ok-after.ensures.kept.cause.kept;
+  clocked = clock_put g.K.Sink c.args.digits.now c.args.lines.now c.clocks.lines c.args.wave c.clocks.n (get_or c.args.digits.now c.clocks.n 0) c.clocks.after
+      c.clocks.invariant.clocked c.clocks-test.true refl _ _ c.in_ok-after.ensures.put c.in_ok-after.ensures.next;
 }
 
 pub returns-clause-next : goal.returns-clause-next
 returns-clause-next g c =
     let h = c.clocks.invariant.clocked in
-    h.is ∙ ap (λ ds. after_items c.args.wave (map Clocked ds)) (all_clocked g.K.Sink.written c.args.digits.now h c.clocks-test.false)
+    h.is ∙ ap (λ ds. after_items c.args.wave (map Clocked ds)) (all_clocked g.K.Sink c.args.digits.now h c.clocks-test.false)
 
 pub returns-clause-put : goal.returns-clause-put
 returns-clause-put g c =
     let h = c.clocks.invariant.clocked in
-    put_done (puts_same (ap (λ ds. items_text c.args.wave (map Clocked ds)) (all_clocked g.K.Sink.written c.args.digits.now h c.clocks-test.false)) h.puts)
+    puts_same (ap (λ ds. items_text c.args.wave (map Clocked ds)) (all_clocked g.K.Sink c.args.digits.now h c.clocks-test.false)) h.puts

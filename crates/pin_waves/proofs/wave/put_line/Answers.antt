@@ -14,7 +14,7 @@ returns-in_err-clocked-clause-put g c =
     let w = c.args.wave in
     put_failed c.from_residual.result c.from_residual.ensures.0
     (front_same (sym (text_join (map Clocked (line_digits line)) (line_waits line) w))
-    (front_with (items_text (after_items w (map Clocked (line_digits line))) (line_waits line)) (rw c.digits_of.ensures at c.in_err-clocked.ensures.put.front)))
+    (front_with (items_text (after_items w (map Clocked (line_digits line))) (line_waits line)) (rw c.digits_of.ensures at c.in_err-clocked.ensures.put)))
 
 pub put_wait-requires-clause-small : goal.put_wait-requires-clause-small
 put_wait-requires-clause-small g c =
@@ -28,6 +28,6 @@ put_wait-requires-clause-small g c =
 pub returns-clause-put : goal.returns-clause-put
 returns-clause-put g c =
     let line = c.args.line.now in
-    has_put_same c.put_wait.result (sym (text_join (map Clocked (line_digits line)) (line_waits line) c.args.wave))
-    (put_then_put c.put_wait.result (rw c.digits_of.ensures at c.in_ok-clocked.ensures.put.ok)
+    has_put_same _ _ _ c.put_wait.result (sym (text_join (map Clocked (line_digits line)) (line_waits line) c.args.wave))
+    (put_then_put _ _ c.put_wait.result (rw c.digits_of.ensures at c.in_ok-clocked.ensures.put)
     (rw (c.in_ok-clocked.ensures.next, c.digits_of.ensures, c.wait_of.ensures.wait) at c.put_wait.ensures.put))

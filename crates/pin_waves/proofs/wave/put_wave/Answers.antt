@@ -1,23 +1,23 @@
-use Rattle.tool_io.proofs.PutLemmas.{put_then, put_then_front, front_with, put_failed, put_done}
+use Rattle.tool_io.proofs.PutLemmas.{put_then, put_then_front, front_with, put_failed}
 use Rattle.pin_waves.specs.Items.{items_in}
 use Rattle.pin_waves.specs.Waves.{first_wave, items_text, after_items, end_text}
 use Rattle.pin_waves.proofs.wave.put_wave.Goals as goal
 
-pub returns-in_err-put-clause-put : goal.returns-in_err-put-clause-put
-returns-in_err-put-clause-put g c =
+pub returns-in_err-put : goal.returns-in_err-put
+returns-in_err-put g c =
     put_failed c.from_residual.result c.from_residual.ensures.0
-    (front_with (end_text (after_items first_wave (items_in c.args.text.now))) (front_with (items_text first_wave (items_in c.args.text.now)) c.in_err-put.ensures.put.front))
+    (front_with (end_text (after_items first_wave (items_in c.args.text.now))) (front_with (items_text first_wave (items_in c.args.text.now)) c.in_err-put.ensures.put))
 
-pub returns-in_err-wave-clause-put : goal.returns-in_err-wave-clause-put
-returns-in_err-wave-clause-put g c =
+pub returns-in_err-wave : goal.returns-in_err-wave
+returns-in_err-wave g c =
     put_failed c.from_residual-in_err-wave.result c.from_residual-in_err-wave.ensures.0
-    (front_with (end_text (after_items first_wave (items_in c.args.text.now))) (put_then_front c.in_ok-put.ensures.put.ok c.in_err-wave.ensures.put.front))
+    (front_with (end_text (after_items first_wave (items_in c.args.text.now))) (put_then_front c.in_ok-put.ensures.put c.in_err-wave.ensures.put))
 
-pub returns-in_err-put_end-clause-put : goal.returns-in_err-put_end-clause-put
-returns-in_err-put_end-clause-put g c =
+pub returns-in_err-put_end : goal.returns-in_err-put_end
+returns-in_err-put_end g c =
     put_failed c.from_residual-in_err-put_end.result c.from_residual-in_err-put_end.ensures.0
-    (put_then_front (put_then c.in_ok-put.ensures.put.ok c.in_ok-wave.ensures.put.ok) (rw c.in_ok-wave.ensures.next at c.in_err-put_end.ensures.put.front))
+    (put_then_front (put_then c.in_ok-put.ensures.put c.in_ok-wave.ensures.put) (rw c.in_ok-wave.ensures.next at c.in_err-put_end.ensures))
 
-pub returns-clause-put : goal.returns-clause-put
-returns-clause-put g c =
-    put_done (put_then (put_then c.in_ok-put.ensures.put.ok c.in_ok-wave.ensures.put.ok) (rw c.in_ok-wave.ensures.next at c.in_ok-put_end.ensures.put.ok))
+pub returns : goal.returns
+returns g c =
+    put_then (put_then c.in_ok-put.ensures.put c.in_ok-wave.ensures.put) (rw c.in_ok-wave.ensures.next at c.in_ok-put_end.ensures)

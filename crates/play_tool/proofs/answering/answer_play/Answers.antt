@@ -16,7 +16,7 @@ returns-in-Ok-clause-answers g c =
     let board = rw c.as_str.ensures at c.in-Ok.ensures.board in
     of_both (g.S.Shelf.told c.args.shelf.now) c.args.play.now board.held board.read
     (rw (c.as_str-in-Ok.ensures, c.deref.ensures.value, c.in-Ok.ensures.keeps) at c.play_source.ensures.answers)
-    (λ source a. said_and_left_as g.K.Sink.written c.play_source.result (board_of_devices c.in-Ok.devices.items board.holds) (λ p. p) (λ p. p)
+    (λ source a. said_and_left_as g.K.Sink c.play_source.result (board_of_devices c.in-Ok.devices.items board.holds) (λ p. p) (λ p. p)
     (λ rack final. record { devices = c.in-Ok.devices.items; is_board = board.holds; final = final }) a)
 
 pub returns-in-Ok-clause-shelf : goal.returns-in-Ok-clause-shelf
@@ -34,7 +34,7 @@ returns-in_err-put_board_refusal-in-Err-At-clause-answers g c =
     (rw c.as_str.ensures at c.in-Err-At.ensures.fault c.in-Err-At.line c.in-Err-At.reason (ap Err c.in-Err-At.field-0-is)) in
     of_board (g.S.Shelf.told c.args.shelf.now) c.args.play.now reads.held reads.read (λ source. record {
       says = says_failed _ _ _ _ _ c.from_residual.result c.from_residual.ensures.1
-          (said_front _ (BoardRefused _ _) (board_refused _ _ reads.holds) c.in_err-put_board_refusal-in-Err-At.ensures.put.front);
+          (said_front _ (BoardRefused _ _) (board_refused _ _ reads.holds) c.in_err-put_board_refusal-in-Err-At.ensures);
       left = left_failed c.from_residual.result c.from_residual.ensures.1;
     })
 
@@ -43,13 +43,13 @@ returns-in_ok-put_board_refusal-in-Err-At-clause-answers g c =
     let reads = fault_is c.in-Err-At.line _ c.in-Err-At.reason _ (sym c.in-Err-At.line-is) (sym c.in-Err-At.reason-is)
     (rw c.as_str.ensures at c.in-Err-At.ensures.fault c.in-Err-At.line c.in-Err-At.reason (ap Err c.in-Err-At.field-0-is)) in
     of_board (g.S.Shelf.told c.args.shelf.now) c.args.play.now reads.held reads.read (λ source. record {
-      says = said_text _ (board_refused _ _ reads.holds) c.in_ok-put_board_refusal-in-Err-At.ensures.put.ok;
+      says = said_text _ (board_refused _ _ reads.holds) c.in_ok-put_board_refusal-in-Err-At.ensures;
       left = left_refused (BoardRefused _ _) (λ p. p);
     })
 
 pub returns-in-Err-Read-clause-answers : goal.returns-in-Err-Read-clause-answers
 returns-in-Err-Read-clause-answers g c =
-    of_any_files (g.S.Shelf.told c.args.shelf.now) (play_files c.args.play.now) (λ contents. record { says = refl; left = left_unread Read })
+    of_any_files (g.S.Shelf.told c.args.shelf.now) (play_files c.args.play.now) (λ contents. record { says = (refl, refl); left = left_unread Read })
 
 pub returns-in-Err-Read-clause-shelf : goal.returns-in-Err-Read-clause-shelf
 returns-in-Err-Read-clause-shelf g c = record {
@@ -60,4 +60,4 @@ returns-in-Err-Read-clause-shelf g c = record {
 
 pub returns-in-Err-Memory-clause-answers : goal.returns-in-Err-Memory-clause-answers
 returns-in-Err-Memory-clause-answers g c =
-    of_any_files (g.S.Shelf.told c.args.shelf.now) (play_files c.args.play.now) (λ contents. record { says = refl; left = left_unread Memory })
+    of_any_files (g.S.Shelf.told c.args.shelf.now) (play_files c.args.play.now) (λ contents. record { says = (refl, refl); left = left_unread Memory })

@@ -10,7 +10,7 @@ not_playing e = cc
 pub returns-in-Play-clause-answers : goal.returns-in-Play-clause-answers
 returns-in-Play-clause-answers g c =
     rw c.in-Play.is
-    (of_files_as (λ contents a. said_and_left_as g.K.Sink.written c.answer_play.result (record { to = λ text status a. a }) (λ p. refl) (λ p. tt) (λ rack final. final) a)
+    (of_files_as (λ contents a. said_and_left_as g.K.Sink c.answer_play.result (record { to = λ text status a. a }) (λ p. refl) (λ p. tt) (λ rack final. final) a)
     c.answer_play.ensures.answers)
 
 pub returns-in-Play-clause-shelf : goal.returns-in-Play-clause-shelf
@@ -19,7 +19,7 @@ returns-in-Play-clause-shelf g c = rw c.in-Play.is c.answer_play.ensures.shelf
 pub returns-in-Run-clause-answers : goal.returns-in-Run-clause-answers
 returns-in-Run-clause-answers g c =
     rw c.in-Run.is
-    (of_files_as (λ contents a. said_and_left_as g.K.Sink.written c.answer_play-in-Run.result (record { to = λ text status a. a }) (λ p. refl) (λ p. tt) (λ rack final. final) a)
+    (of_files_as (λ contents a. said_and_left_as g.K.Sink c.answer_play-in-Run.result (record { to = λ text status a. a }) (λ p. refl) (λ p. tt) (λ rack final. final) a)
     c.answer_play-in-Run.ensures.answers)
 
 pub returns-in-Run-clause-shelf : goal.returns-in-Run-clause-shelf
@@ -56,5 +56,5 @@ pub returns-in-Soak-clause-answers : goal.returns-in-Soak-clause-answers
 returns-in-Soak-clause-answers g c =
     rw c.in-Soak.is
     (of_any_files (g.S.Shelf.told c.args.shelf.now) _ (λ contents.
-    said_and_left_as g.K.Sink.written c.answer_soak.result (record { to = λ text status a. a }) (λ p. refl) (λ p. tt) (λ rack final. final)
-    (said_and_left g.K.Sink.written c.answer_soak.result (record { to = λ text status a. a }) (λ rack final. final) c.answer_soak.ensures.says c.answer_soak.ensures.rack)))
+    said_and_left_as g.K.Sink c.answer_soak.result (record { to = λ text status a. a }) (λ p. refl) (λ p. tt) (λ rack final. final)
+    (said_and_left g.K.Sink c.answer_soak.result (record { to = λ text status a. a }) (λ rack final. final) c.answer_soak.ensures.says c.answer_soak.ensures.rack)))

@@ -5,11 +5,11 @@ use Rattle.program_reports.specs.Listings.{list_text}
 use Rattle.tool_frame.proofs.AnswerLemmas.{says_failed, said_text, said_front}
 use Rattle.play_tool.proofs.programs.list_program.Goals as goal
 
-pub returns-in_err-put_list-clause-says : goal.returns-in_err-put_list-clause-says
-returns-in_err-put_list-clause-says g c =
+pub returns-in_err-put_list : goal.returns-in_err-put_list
+returns-in_err-put_list g c =
     says_failed _ _ _ _ _ c.from_residual.result c.from_residual.ensures.1
-    (said_front (list_text (trees_of c.args.program.now)) (Done (pos 0)) (record { said = refl; done = refl }) (rw c.statements.ensures.statements at c.in_err-put_list.ensures.put.front))
+    (said_front (list_text (trees_of c.args.program.now)) (Done (pos 0)) (record { said = refl; done = refl }) (rw c.statements.ensures.statements at c.in_err-put_list.ensures))
 
-pub returns-clause-says : goal.returns-clause-says
-returns-clause-says g c =
-    said_text (list_text (trees_of c.args.program.now)) (record { said = refl; done = refl }) (rw c.statements.ensures.statements at c.in_ok-put_list.ensures.put.ok)
+pub returns : goal.returns
+returns g c =
+    said_text (list_text (trees_of c.args.program.now)) (record { said = refl; done = refl }) (rw c.statements.ensures.statements at c.in_ok-put_list.ensures)

@@ -6,7 +6,7 @@ use Rattle.play_tool.proofs.ProgramLemmas.{code_to_program, program_final}
 use Rattle.play_tool.proofs.programs.play_program.Goals as goal
 
 pub returns-in_err-code-clause-says : goal.returns-in_err-code-clause-says
-returns-in_err-code-clause-says g c = says_no_memory _ _ _ _ _ c.from_residual.result c.from_residual.ensures.1 refl
+returns-in_err-code-clause-says g c = says_no_memory _ _ _ _ _ c.from_residual.result c.from_residual.ensures.1 (refl, refl)
 
 pub returns-clause-says : goal.returns-clause-says
 returns-clause-says g c =

@@ -8,10 +8,10 @@ use Rattle.play_tool.proofs.SoakLemmas.{line_is, soak_says}
 use Rattle.play_tool.proofs.soaking.answer_soak.Goals as goal
 
 pub returns-in_err-soak-clause-says : goal.returns-in_err-soak-clause-says
-returns-in_err-soak-clause-says g c = says_no_memory _ _ _ _ _ c.from_residual.result c.from_residual.ensures.1 refl
+returns-in_err-soak-clause-says g c = says_no_memory _ _ _ _ _ c.from_residual.result c.from_residual.ensures.1 (refl, refl)
 
 pub returns-in_err-line-clause-says : goal.returns-in_err-line-clause-says
-returns-in_err-line-clause-says g c = says_no_memory _ _ _ _ _ c.from_residual-in_err-line.result c.from_residual-in_err-line.ensures.1 refl
+returns-in_err-line-clause-says g c = says_no_memory _ _ _ _ _ c.from_residual-in_err-line.result c.from_residual-in_err-line.ensures.1 (refl, refl)
 
 pub returns-clause-says : goal.returns-clause-says
 returns-clause-says g c =
@@ -24,8 +24,8 @@ returns-clause-says g c =
     let asked : c.request_at-request.result ≡ soak_request c.args.seed = c.request_at-request.ensures ∙ ap request_at c.in_ok-soak.ensures.place in
     let board : c.deref-3.result.now ≡ soak_board c.args.seed = c.deref-3.ensures.value ∙ c.in_ok-soak.ensures.board in
     let program : c.deref-4.result.now ≡ soak_program c.args.seed = c.deref-4.ensures.value ∙ c.in_ok-soak.ensures.program in
-    soak_says g.K.Sink.written _ _ _ c.args.seed c.play_texts.result
-    (subst (λ (bytes : List ℕ). Puts g.K.Sink.written c.args.lines.now bytes c.put.new.self) line c.in_ok-put.ensures.put.ok)
+    soak_says g.K.Sink _ _ _ c.args.seed c.play_texts.result
+    (subst (λ (bytes : List ℕ). Puts g.K.Sink c.args.lines.now bytes c.put.new.self) line c.in_ok-put.ensures.put)
     ((c.put.ensures.gathers fits).1) (rw (asked, board, program) at c.play_texts.ensures.says)
 
 pub returns-clause-rack : goal.returns-clause-rack

@@ -25,10 +25,10 @@ returns-in_err-put_refusal-in-Err-Refused-clause-says g c =
     says_failed _ _ _ _ _ c.from_residual.result c.from_residual.ensures.1
     (said_front _ _ (refused _ _ _ (text_fault_is (sym c.in-Err-Refused.piece-is) (sym c.in-Err-Refused.line-is) (sym c.in-Err-Refused.reason-is)
     (subst (IsCause c.args.bytes.now) c.in-Err-Refused.field-0-is c.in-Err-Refused.ensures.refused)))
-    c.in_err-put_refusal-in-Err-Refused.ensures.put.front)
+    c.in_err-put_refusal-in-Err-Refused.ensures)
 
 pub returns-in_ok-put_refusal-in-Err-Refused-clause-says : goal.returns-in_ok-put_refusal-in-Err-Refused-clause-says
 returns-in_ok-put_refusal-in-Err-Refused-clause-says g c =
     said_text _ (refused _ _ _ (text_fault_is (sym c.in-Err-Refused.piece-is) (sym c.in-Err-Refused.line-is) (sym c.in-Err-Refused.reason-is)
     (subst (IsCause c.args.bytes.now) c.in-Err-Refused.field-0-is c.in-Err-Refused.ensures.refused)))
-    c.in_ok-put_refusal-in-Err-Refused.ensures.put.ok
+    c.in_ok-put_refusal-in-Err-Refused.ensures

@@ -21,10 +21,10 @@ returns-in_err-put_board_refusal-in-Err-At-clause-says g c =
     says_failed _ _ _ _ _ c.from_residual.result c.from_residual.ensures.1
     (said_front _ (BoardRefused _ _) (board_refused _ _
     (board_fault_is _ _ _ _ (sym c.in-Err-At.line-is) (sym c.in-Err-At.reason-is) (c.in-Err-At.ensures.fault _ _ (ap Err c.in-Err-At.field-0-is))))
-    c.in_err-put_board_refusal-in-Err-At.ensures.put.front)
+    c.in_err-put_board_refusal-in-Err-At.ensures)
 
 pub returns-in_ok-put_board_refusal-in-Err-At-clause-says : goal.returns-in_ok-put_board_refusal-in-Err-At-clause-says
 returns-in_ok-put_board_refusal-in-Err-At-clause-says g c =
     said_text _ (board_refused _ _
     (board_fault_is _ _ _ _ (sym c.in-Err-At.line-is) (sym c.in-Err-At.reason-is) (c.in-Err-At.ensures.fault _ _ (ap Err c.in-Err-At.field-0-is))))
-    c.in_ok-put_board_refusal-in-Err-At.ensures.put.ok
+    c.in_ok-put_board_refusal-in-Err-At.ensures

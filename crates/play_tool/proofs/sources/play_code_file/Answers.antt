@@ -9,7 +9,7 @@ use Rattle.play_tool.proofs.sources.play_code_file.Goals as goal
 pub returns-in-Ok-clause-answers : goal.returns-in-Ok-clause-answers
 returns-in-Ok-clause-answers g c =
     of_file_as (λ held is.
-    said_and_left g.K.Sink.written c.play_code.result (code_answers c.args.task.now.request.now c.args.task.now.devices.now c.in-Ok.code held is)
+    said_and_left g.K.Sink c.play_code.result (code_answers c.args.task.now.request.now c.args.task.now.devices.now c.in-Ok.code held is)
     (file_final held is) c.play_code.ensures.says c.play_code.ensures.rack) c.in-Ok.ensures.code
 
 pub returns-in_err-put_code_refusal-in-Err-At-clause-answers : goal.returns-in_err-put_code_refusal-in-Err-At-clause-answers
@@ -18,7 +18,7 @@ returns-in_err-put_code_refusal-in-Err-At-clause-answers g c =
     (code_refusal_failed c.args.task.now.request.now c.args.task.now.devices.now _ _
     (fault_is (sym c.in-Err-At.offset-is) (sym c.in-Err-At.reason-is)
     (c.in-Err-At.ensures.fault c.in-Err-At.offset c.in-Err-At.reason (ap Err c.in-Err-At.field-0-is)))
-    c.from_residual.result c.from_residual.ensures.1 c.in_err-put_code_refusal-in-Err-At.ensures.put.front)
+    c.from_residual.result c.from_residual.ensures.1 c.in_err-put_code_refusal-in-Err-At.ensures)
 
 pub returns-in_ok-put_code_refusal-in-Err-At-clause-answers : goal.returns-in_ok-put_code_refusal-in-Err-At-clause-answers
 returns-in_ok-put_code_refusal-in-Err-At-clause-answers g c =
@@ -26,10 +26,10 @@ returns-in_ok-put_code_refusal-in-Err-At-clause-answers g c =
     (code_refusal_put c.args.task.now.request.now c.args.task.now.devices.now _ _
     (fault_is (sym c.in-Err-At.offset-is) (sym c.in-Err-At.reason-is)
     (c.in-Err-At.ensures.fault c.in-Err-At.offset c.in-Err-At.reason (ap Err c.in-Err-At.field-0-is)))
-    c.in_ok-put_code_refusal-in-Err-At.ensures.put.ok)
+    c.in_ok-put_code_refusal-in-Err-At.ensures)
 
 pub returns-in-Err-Read-clause-answers : goal.returns-in-Err-Read-clause-answers
-returns-in-Err-Read-clause-answers g c = of_any_file (g.S.Shelf.told c.args.shelf.now) (Some c.args.path.now) (λ held. record { says = refl; left = left_unread Read })
+returns-in-Err-Read-clause-answers g c = of_any_file (g.S.Shelf.told c.args.shelf.now) (Some c.args.path.now) (λ held. record { says = (refl, refl); left = left_unread Read })
 
 pub returns-in-Err-Memory-clause-answers : goal.returns-in-Err-Memory-clause-answers
-returns-in-Err-Memory-clause-answers g c = of_any_file (g.S.Shelf.told c.args.shelf.now) (Some c.args.path.now) (λ held. record { says = refl; left = left_unread Memory })
+returns-in-Err-Memory-clause-answers g c = of_any_file (g.S.Shelf.told c.args.shelf.now) (Some c.args.path.now) (λ held. record { says = (refl, refl); left = left_unread Memory })

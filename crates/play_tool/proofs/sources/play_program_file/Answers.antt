@@ -12,7 +12,7 @@ use Rattle.play_tool.proofs.sources.play_program_file.Goals as goal
 pub returns-in-Ok-clause-answers : goal.returns-in-Ok-clause-answers
 returns-in-Ok-clause-answers g c =
     of_text (g.S.Shelf.told c.args.shelf.now) c.args.path.now _ c.in-Ok.ensures.text
-    (said_and_left g.K.Sink.written c.play_program.result (program_in_text (trees_of c.in-Ok.program) c.in-Ok.ensures.program)
+    (said_and_left g.K.Sink c.play_program.result (program_in_text (trees_of c.in-Ok.program) c.in-Ok.ensures.program)
     (λ rack final. record { program = trees_of c.in-Ok.program; is = c.in-Ok.ensures.program; final = final }) c.play_program.ensures.says c.play_program.ensures.rack)
 
 pub returns-in_err-put_refusal-in-Err-Refused-clause-answers : goal.returns-in_err-put_refusal-in-Err-Refused-clause-answers
@@ -21,7 +21,7 @@ returns-in_err-put_refusal-in-Err-Refused-clause-answers g c =
     (refusal_failed _ _ _ (TextAnswer (PlaysAction c.args.task.now.request.now c.args.task.now.devices.now)) _ (λ bytes. refused _ _ _)
     (fault_is (sym c.in-Err-Refused.piece-is) (sym c.in-Err-Refused.line-is) (sym c.in-Err-Refused.reason-is)
     (c.in-Err-Refused.ensures.fault c.in-Err-Refused.piece c.in-Err-Refused.line c.in-Err-Refused.reason (ap Err c.in-Err-Refused.field-0-is)))
-    c.from_residual.result c.from_residual.ensures.1 c.in_err-put_refusal-in-Err-Refused.ensures.put.front)
+    c.from_residual.result c.from_residual.ensures.1 c.in_err-put_refusal-in-Err-Refused.ensures)
 
 pub returns-in_ok-put_refusal-in-Err-Refused-clause-answers : goal.returns-in_ok-put_refusal-in-Err-Refused-clause-answers
 returns-in_ok-put_refusal-in-Err-Refused-clause-answers g c =
@@ -29,10 +29,10 @@ returns-in_ok-put_refusal-in-Err-Refused-clause-answers g c =
     (refusal_put _ _ _ (TextAnswer (PlaysAction c.args.task.now.request.now c.args.task.now.devices.now)) _ (λ bytes. refused _ _ _)
     (fault_is (sym c.in-Err-Refused.piece-is) (sym c.in-Err-Refused.line-is) (sym c.in-Err-Refused.reason-is)
     (c.in-Err-Refused.ensures.fault c.in-Err-Refused.piece c.in-Err-Refused.line c.in-Err-Refused.reason (ap Err c.in-Err-Refused.field-0-is)))
-    c.in_ok-put_refusal-in-Err-Refused.ensures.put.ok)
+    c.in_ok-put_refusal-in-Err-Refused.ensures)
 
 pub returns-in-Err-Read-clause-answers : goal.returns-in-Err-Read-clause-answers
-returns-in-Err-Read-clause-answers g c = of_any_file (g.S.Shelf.told c.args.shelf.now) (Some c.args.path.now) (λ held. record { says = refl; left = left_unread Read })
+returns-in-Err-Read-clause-answers g c = of_any_file (g.S.Shelf.told c.args.shelf.now) (Some c.args.path.now) (λ held. record { says = (refl, refl); left = left_unread Read })
 
 pub returns-in-Err-Memory-clause-answers : goal.returns-in-Err-Memory-clause-answers
-returns-in-Err-Memory-clause-answers g c = of_any_file (g.S.Shelf.told c.args.shelf.now) (Some c.args.path.now) (λ held. record { says = refl; left = left_unread Memory })
+returns-in-Err-Memory-clause-answers g c = of_any_file (g.S.Shelf.told c.args.shelf.now) (Some c.args.path.now) (λ held. record { says = (refl, refl); left = left_unread Memory })

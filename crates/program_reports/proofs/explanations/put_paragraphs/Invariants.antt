@@ -1,13 +1,10 @@
 use Rattle.std.proofs.Common.{map, take}
 use Rattle.std.specs.List.{flat_map}
-use Rattle.tool_io.specs.Lines.{IsWhole, IsOverSame, Puts, SinkNeverFalls}
+use Rattle.tool_io.specs.Lines.{Puts}
 use Rattle.tool_io.specs.Texts.{word_line}
 use Rattle.program_reports.proofs.explanations.put_paragraphs.Given as goal
 
 abbrev pub invariant-loop-i : goal.invariant-loop-i
 invariant-loop-i g l = record {
-  same_sink : IsOverSame l.fn.lines l.lines;
-  whole : IsWhole l.lines;
-  puts : Puts g.K.Sink.written l.fn.lines (flat_map word_line (take l.i (map (λ line. line.now) l.paragraphs))) l.lines;
-  kept : SinkNeverFalls g.K.Sink.faults g.K.Sink.is_last l.fn.lines l.lines;
+  puts : Puts g.K.Sink l.fn.lines (flat_map word_line (take l.i (map (λ line. line.now) l.paragraphs))) l.lines;
 }

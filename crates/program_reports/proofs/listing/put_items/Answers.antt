@@ -1,29 +1,24 @@
-use Rattle.std.proofs.Common.{rules}
-use Rattle.tool_io.proofs.CauseLemmas.{kept_then}
-use Rattle.tool_io.proofs.PutLemmas.{put_failed, put_done}
+use Rattle.tool_io.proofs.PutLemmas.{put_failed}
 use Rattle.stapl_syntax.specs.Trees.{item_tree}
 use Rattle.program_reports.specs.Listings.{item_line}
 use Rattle.program_reports.proofs.ListLemmas.{item_put, item_front, items_put}
 use Rattle.program_reports.proofs.listing.put_items.Goals as goal
 
-pub returns-in_err-put_item-clause-put : goal.returns-in_err-put_item-clause-put
-returns-in_err-put_item-clause-put g c =
+pub returns-in_err-put_item : goal.returns-in_err-put_item
+returns-in_err-put_item g c =
     put_failed c.from_residual.result c.from_residual.ensures.0
     (item_front item_line item_tree c.args.items.now c.loop-item.item-index
     c.item-item.result c.loop-item-test.true c.item-item.is
-    c.loop-item.invariant.puts c.in_err-put_item.ensures.put.front)
+    c.loop-item.invariant.puts c.in_err-put_item.ensures)
 
 pub loop-item-preserved : goal.loop-item-preserved
 loop-item-preserved g c = record {
-  same_sink = search rules;
-  whole = search rules;
   puts = item_put item_line item_tree c.args.items.now c.loop-item.item-index
       c.item-item.result c.loop-item-test.true c.item-item.is
-      c.loop-item.invariant.puts c.in_ok-put_item.ensures.put.ok;
-  kept = kept_then c.loop-item.invariant.kept c.in_ok-put_item.ensures.kept.cause.kept;
+      c.loop-item.invariant.puts c.in_ok-put_item.ensures;
 }
 
-pub returns-clause-put : goal.returns-clause-put
-returns-clause-put g c =
-    put_done (items_put item_line item_tree c.args.items.now c.loop-item.item-index
-    c.loop-item-test.false c.loop-item.invariant.puts)
+pub returns : goal.returns
+returns g c =
+    items_put item_line item_tree c.args.items.now c.loop-item.item-index
+    c.loop-item-test.false c.loop-item.invariant.puts

@@ -1,29 +1,24 @@
-use Rattle.std.proofs.Common.{rules}
-use Rattle.tool_io.proofs.CauseLemmas.{kept_then}
-use Rattle.tool_io.proofs.PutLemmas.{put_failed, put_done}
+use Rattle.tool_io.proofs.PutLemmas.{put_failed}
 use Rattle.stapl_syntax.specs.Trees.{stmt_tree}
 use Rattle.program_reports.specs.Listings.{lines_of}
 use Rattle.program_reports.proofs.ListLemmas.{item_put, item_front, items_put}
 use Rattle.program_reports.proofs.listing.put_list.Goals as goal
 
-pub returns-in_err-put_statement-clause-put : goal.returns-in_err-put_statement-clause-put
-returns-in_err-put_statement-clause-put g c =
+pub returns-in_err-put_statement : goal.returns-in_err-put_statement
+returns-in_err-put_statement g c =
     put_failed c.from_residual.result c.from_residual.ensures.0
     (item_front (λ st. lines_of st.body) stmt_tree c.args.program.now c.loop-statement.statement-index
     c.statement-item.result c.loop-statement-test.true c.statement-item.is
-    c.loop-statement.invariant.puts c.in_err-put_statement.ensures.put.front)
+    c.loop-statement.invariant.puts c.in_err-put_statement.ensures)
 
 pub loop-statement-preserved : goal.loop-statement-preserved
 loop-statement-preserved g c = record {
-  same_sink = search rules;
-  whole = search rules;
   puts = item_put (λ st. lines_of st.body) stmt_tree c.args.program.now c.loop-statement.statement-index
       c.statement-item.result c.loop-statement-test.true c.statement-item.is
-      c.loop-statement.invariant.puts c.in_ok-put_statement.ensures.put.ok;
-  kept = kept_then c.loop-statement.invariant.kept c.in_ok-put_statement.ensures.kept.cause.kept;
+      c.loop-statement.invariant.puts c.in_ok-put_statement.ensures;
 }
 
-pub returns-clause-put : goal.returns-clause-put
-returns-clause-put g c =
-    put_done (items_put (λ st. lines_of st.body) stmt_tree c.args.program.now c.loop-statement.statement-index
-    c.loop-statement-test.false c.loop-statement.invariant.puts)
+pub returns : goal.returns
+returns g c =
+    items_put (λ st. lines_of st.body) stmt_tree c.args.program.now c.loop-statement.statement-index
+    c.loop-statement-test.false c.loop-statement.invariant.puts

@@ -2,12 +2,12 @@ use Rattle.std.proofs.Common.{codes}
 use Rattle.tool_io.proofs.PutLemmas.{front_with, put_failed, put_then_put}
 use Rattle.program_reports.proofs.listing.put_quoted.Goals as goal
 
-pub returns-in_err-put_labelled_text-clause-put : goal.returns-in_err-put_labelled_text-clause-put
-returns-in_err-put_labelled_text-clause-put g c =
+pub returns-in_err-put_labelled_text : goal.returns-in_err-put_labelled_text
+returns-in_err-put_labelled_text g c =
     put_failed c.from_residual.result c.from_residual.ensures.0
-    (front_with (codes "\"") c.in_err-put_labelled_text.ensures.put.front)
+    (front_with (codes "\"") c.in_err-put_labelled_text.ensures)
 
-pub returns-clause-put : goal.returns-clause-put
-returns-clause-put g c =
-    put_then_put c.put.result c.in_ok-put_labelled_text.ensures.put.ok
+pub returns : goal.returns
+returns g c =
+    put_then_put _ _ c.put.result c.in_ok-put_labelled_text.ensures
     c.put.ensures.put

@@ -31,17 +31,17 @@ returns-in_err-put_board_refusal-in-Err-At-clause-says g c =
     (rw c.as_str.ensures at c.in-Err-At.ensures.fault c.in-Err-At.line c.in-Err-At.reason (ap Err c.in-Err-At.field-0-is)) in
     of_board (g.S.Shelf.told c.args.shelf.now) c.args.play.now reads.held reads.read (λ source.
     says_failed _ _ _ _ _ c.from_residual.result c.from_residual.ensures.1
-    (said_front _ (BoardRefused _ _) (board_refused _ _ reads.holds) c.in_err-put_board_refusal-in-Err-At.ensures.put.front))
+    (said_front _ (BoardRefused _ _) (board_refused _ _ reads.holds) c.in_err-put_board_refusal-in-Err-At.ensures))
 
 pub returns-in_ok-put_board_refusal-in-Err-At-clause-says : goal.returns-in_ok-put_board_refusal-in-Err-At-clause-says
 returns-in_ok-put_board_refusal-in-Err-At-clause-says g c =
     let reads = fault_is c.in-Err-At.line _ c.in-Err-At.reason _ (sym c.in-Err-At.line-is) (sym c.in-Err-At.reason-is)
     (rw c.as_str.ensures at c.in-Err-At.ensures.fault c.in-Err-At.line c.in-Err-At.reason (ap Err c.in-Err-At.field-0-is)) in
     of_board (g.S.Shelf.told c.args.shelf.now) c.args.play.now reads.held reads.read (λ source.
-    said_text _ (board_refused _ _ reads.holds) c.in_ok-put_board_refusal-in-Err-At.ensures.put.ok)
+    said_text _ (board_refused _ _ reads.holds) c.in_ok-put_board_refusal-in-Err-At.ensures)
 
 pub returns-in-Err-Read-clause-says : goal.returns-in-Err-Read-clause-says
-returns-in-Err-Read-clause-says g c = of_any_files (g.S.Shelf.told c.args.shelf.now) (play_files c.args.play.now) (λ contents. refl)
+returns-in-Err-Read-clause-says g c = of_any_files (g.S.Shelf.told c.args.shelf.now) (play_files c.args.play.now) (λ contents. (refl, refl))
 
 pub returns-in-Err-Read-clause-shelf : goal.returns-in-Err-Read-clause-shelf
 returns-in-Err-Read-clause-shelf g c = record {
@@ -51,4 +51,4 @@ returns-in-Err-Read-clause-shelf g c = record {
 }
 
 pub returns-in-Err-Memory-clause-says : goal.returns-in-Err-Memory-clause-says
-returns-in-Err-Memory-clause-says g c = of_any_files (g.S.Shelf.told c.args.shelf.now) (play_files c.args.play.now) (λ contents. refl)
+returns-in-Err-Memory-clause-says g c = of_any_files (g.S.Shelf.told c.args.shelf.now) (play_files c.args.play.now) (λ contents. (refl, refl))

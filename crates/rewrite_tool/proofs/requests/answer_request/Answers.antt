@@ -8,7 +8,7 @@ use Rattle.rewrite_tool.proofs.requests.answer_request.Goals as goal
 
 pub returns-in-Ok-clause-says : goal.returns-in-Ok-clause-says
 returns-in-Ok-clause-says g c =
-    request_of_file g.K.Sink.written _ _ (g.S.Shelf.told c.args.shelf.now) (request_of c.args.named) c.answer_file.result c.in-Ok.devices.items
+    request_of_file g.K.Sink _ _ (g.S.Shelf.told c.args.shelf.now) (request_of c.args.named) c.answer_file.result c.in-Ok.devices.items
     c.in-Ok.ensures.board (rw (c.deref.ensures.value, c.in-Ok.ensures.keeps) at c.answer_file.ensures.says)
 
 pub returns-in-Ok-clause-shelf : goal.returns-in-Ok-clause-shelf
@@ -27,7 +27,7 @@ returns-in_err-put_board_refusal-in-Err-At-clause-says g c =
     (sym c.in-Err-At.line-is) (sym c.in-Err-At.reason-is)
     (c.in-Err-At.ensures.fault c.in-Err-At.line c.in-Err-At.reason (ap Err c.in-Err-At.field-0-is)))
     c.from_residual.result c.from_residual.ensures.1
-    c.in_err-put_board_refusal-in-Err-At.ensures.put.front
+    c.in_err-put_board_refusal-in-Err-At.ensures
 
 pub returns-in_ok-put_board_refusal-in-Err-At-clause-says : goal.returns-in_ok-put_board_refusal-in-Err-At-clause-says
 returns-in_ok-put_board_refusal-in-Err-At-clause-says g c =
@@ -35,10 +35,10 @@ returns-in_ok-put_board_refusal-in-Err-At-clause-says g c =
     (fault_is {told = g.S.Shelf.told c.args.shelf.now} {path = c.args.named.board.now} c.in-Err-At.line _ c.in-Err-At.reason _
     (sym c.in-Err-At.line-is) (sym c.in-Err-At.reason-is)
     (c.in-Err-At.ensures.fault c.in-Err-At.line c.in-Err-At.reason (ap Err c.in-Err-At.field-0-is)))
-    c.in_ok-put_board_refusal-in-Err-At.ensures.put.ok
+    c.in_ok-put_board_refusal-in-Err-At.ensures
 
 pub returns-in-Err-Read-clause-says : goal.returns-in-Err-Read-clause-says
-returns-in-Err-Read-clause-says g c = no_board g.K.Sink.written c.args.lines.now (g.S.Shelf.told c.args.shelf.now) (request_of c.args.named)
+returns-in-Err-Read-clause-says g c = no_board g.K.Sink c.args.lines.now (g.S.Shelf.told c.args.shelf.now) (request_of c.args.named)
 
 pub returns-in-Err-Memory-clause-says : goal.returns-in-Err-Memory-clause-says
-returns-in-Err-Memory-clause-says g c = no_board_memory g.K.Sink.written c.args.lines.now (g.S.Shelf.told c.args.shelf.now) (request_of c.args.named) (Err Memory) refl
+returns-in-Err-Memory-clause-says g c = no_board_memory g.K.Sink c.args.lines.now (g.S.Shelf.told c.args.shelf.now) (request_of c.args.named) (Err Memory) refl

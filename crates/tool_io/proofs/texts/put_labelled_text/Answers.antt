@@ -1,15 +1,15 @@
 use Rattle.tool_io.specs.Texts.{escaped}
-use Rattle.tool_io.proofs.PutLemmas.{put_then, put_then_front, front_with, put_failed, put_done}
+use Rattle.tool_io.proofs.PutLemmas.{put_then, put_then_front, front_with, put_failed}
 use Rattle.tool_io.proofs.texts.put_labelled_text.Goals as goal
 
-pub returns-in_err-put-clause-put : goal.returns-in_err-put-clause-put
-returns-in_err-put-clause-put g c =
-    put_failed c.from_residual.result c.from_residual.ensures.0 (front_with (escaped c.args.text.now) c.in_err-put.ensures.put.front)
+pub returns-in_err-put : goal.returns-in_err-put
+returns-in_err-put g c =
+    put_failed c.from_residual.result c.from_residual.ensures.0 (front_with (escaped c.args.text.now) c.in_err-put.ensures.put)
 
-pub returns-in_err-put_escaped-clause-put : goal.returns-in_err-put_escaped-clause-put
-returns-in_err-put_escaped-clause-put g c =
+pub returns-in_err-put_escaped : goal.returns-in_err-put_escaped
+returns-in_err-put_escaped g c =
     put_failed c.from_residual-in_err-put_escaped.result c.from_residual-in_err-put_escaped.ensures.0
-    (put_then_front c.in_ok-put.ensures.put.ok c.in_err-put_escaped.ensures.put.front)
+    (put_then_front c.in_ok-put.ensures.put c.in_err-put_escaped.ensures)
 
-pub returns-clause-put : goal.returns-clause-put
-returns-clause-put g c = put_done (put_then c.in_ok-put.ensures.put.ok c.in_ok-put_escaped.ensures.put.ok)
+pub returns : goal.returns
+returns g c = put_then c.in_ok-put.ensures.put c.in_ok-put_escaped.ensures

@@ -4,11 +4,11 @@ use Rattle.tool_io.proofs.PutLemmas.{front_with, put_failed, put_then_put}
 use Rattle.program_reports.specs.Explanations.{reason_paragraphs}
 use Rattle.tool_questions.proofs.lines.put_refused.Goals as goal
 
-pub returns-in_err-put_refusal-clause-put : goal.returns-in_err-put_refusal-clause-put
-returns-in_err-put_refusal-clause-put g c =
+pub returns-in_err-put_refusal : goal.returns-in_err-put_refusal
+returns-in_err-put_refusal g c =
     put_failed c.from_residual.result c.from_residual.ensures.0
-    (front_with (flat_map word_line (reason_paragraphs c.args.refusal.reason)) c.in_err-put_refusal.ensures.put.front)
+    (front_with (flat_map word_line (reason_paragraphs c.args.refusal.reason)) c.in_err-put_refusal.ensures)
 
-pub returns-clause-put : goal.returns-clause-put
-returns-clause-put g c =
-    put_then_put c.put_paragraphs.result c.in_ok-put_refusal.ensures.put.ok (rw c.requires.why at c.put_paragraphs.ensures.put)
+pub returns : goal.returns
+returns g c =
+    put_then_put _ _ c.put_paragraphs.result c.in_ok-put_refusal.ensures (rw c.requires.why at c.put_paragraphs.ensures)

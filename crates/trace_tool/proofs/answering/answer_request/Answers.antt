@@ -8,7 +8,7 @@ use Rattle.trace_tool.proofs.answering.answer_request.Goals as goal
 
 pub returns-in-Ok-clause-answers : goal.returns-in-Ok-clause-answers
 returns-in-Ok-clause-answers g c =
-    request_of_file g.K.Sink.written _ _ _ _ _ _ (g.S.Shelf.told c.args.shelf.now) (files_named c.args.named) c.answer_file.result c.in-Ok.devices.items
+    request_of_file g.K.Sink _ _ _ _ _ _ (g.S.Shelf.told c.args.shelf.now) (files_named c.args.named) c.answer_file.result c.in-Ok.devices.items
     c.in-Ok.ensures.board (rw (c.deref.ensures.value, c.in-Ok.ensures.keeps) at c.answer_file.ensures.answers)
 
 pub returns-in-Ok-clause-shelf : goal.returns-in-Ok-clause-shelf
@@ -27,7 +27,7 @@ returns-in_err-put_board_refusal-in-Err-At-clause-answers g c =
     (sym c.in-Err-At.line-is) (sym c.in-Err-At.reason-is)
     (c.in-Err-At.ensures.fault c.in-Err-At.line c.in-Err-At.reason (ap Err c.in-Err-At.field-0-is)))
     c.from_residual.result c.from_residual.ensures.1
-    c.in_err-put_board_refusal-in-Err-At.ensures.put.front
+    c.in_err-put_board_refusal-in-Err-At.ensures
 
 pub returns-in_ok-put_board_refusal-in-Err-At-clause-answers : goal.returns-in_ok-put_board_refusal-in-Err-At-clause-answers
 returns-in_ok-put_board_refusal-in-Err-At-clause-answers g c =
@@ -35,7 +35,7 @@ returns-in_ok-put_board_refusal-in-Err-At-clause-answers g c =
     (fault_is {told = g.S.Shelf.told c.args.shelf.now} {path = c.args.named.board.now} c.in-Err-At.line _ c.in-Err-At.reason _
     (sym c.in-Err-At.line-is) (sym c.in-Err-At.reason-is)
     (c.in-Err-At.ensures.fault c.in-Err-At.line c.in-Err-At.reason (ap Err c.in-Err-At.field-0-is)))
-    c.in_ok-put_board_refusal-in-Err-At.ensures.put.ok
+    c.in_ok-put_board_refusal-in-Err-At.ensures
 
 pub returns-in-Err-Read-clause-answers : goal.returns-in-Err-Read-clause-answers
 returns-in-Err-Read-clause-answers g c = no_board (g.S.Shelf.told c.args.shelf.now) (files_named c.args.named)

@@ -4,18 +4,18 @@ use Rattle.trace_tool.proofs.comparing.answer_file.Goals as goal
 
 pub returns-in-Ok-clause-answers : goal.returns-in-Ok-clause-answers
 returns-in-Ok-clause-answers g c =
-    whole_file g.K.Sink.written _ _ _ _ _ _ (g.S.Shelf.told c.args.shelf.now) c.args.path.now c.args.devices.now c.in-Ok.bytes.items c.compare.result
+    whole_file g.K.Sink _ _ _ _ _ _ (g.S.Shelf.told c.args.shelf.now) c.args.path.now c.args.devices.now c.in-Ok.bytes.items c.compare.result
     c.in-Ok.ensures.whole (rw c.deref.ensures.value at c.compare.ensures.says) (rw c.deref.ensures.value at c.compare.ensures.rack)
 
 pub returns-in_err-put_too_long-in-Err-TooLong-clause-answers : goal.returns-in_err-put_too_long-in-Err-TooLong-clause-answers
 returns-in_err-put_too_long-in-Err-TooLong-clause-answers g c =
-    long_failed g.K.Sink.written _ _ _ _ _ (g.S.Shelf.told c.args.shelf.now) c.args.path.now c.args.devices.now c.from_residual.result
-    (c.in-Err-TooLong.ensures.long (ap Err c.in-Err-TooLong.field-0-is)) c.from_residual.ensures.1 c.in_err-put_too_long-in-Err-TooLong.ensures.put.front
+    long_failed g.K.Sink _ _ _ _ _ (g.S.Shelf.told c.args.shelf.now) c.args.path.now c.args.devices.now c.from_residual.result
+    (c.in-Err-TooLong.ensures.long (ap Err c.in-Err-TooLong.field-0-is)) c.from_residual.ensures.1 c.in_err-put_too_long-in-Err-TooLong.ensures
 
 pub returns-in_ok-put_too_long-in-Err-TooLong-clause-answers : goal.returns-in_ok-put_too_long-in-Err-TooLong-clause-answers
 returns-in_ok-put_too_long-in-Err-TooLong-clause-answers g c =
-    long_refused g.K.Sink.written _ _ _ _ _ (g.S.Shelf.told c.args.shelf.now) c.args.path.now c.args.devices.now
-    (c.in-Err-TooLong.ensures.long (ap Err c.in-Err-TooLong.field-0-is)) c.in_ok-put_too_long-in-Err-TooLong.ensures.put.ok
+    long_refused g.K.Sink _ _ _ _ _ (g.S.Shelf.told c.args.shelf.now) c.args.path.now c.args.devices.now
+    (c.in-Err-TooLong.ensures.long (ap Err c.in-Err-TooLong.field-0-is)) c.in_ok-put_too_long-in-Err-TooLong.ensures
 
 pub returns-in-Err-ReadFault-clause-answers : goal.returns-in-Err-ReadFault-clause-answers
 returns-in-Err-ReadFault-clause-answers g c = not_read (g.S.Shelf.told c.args.shelf.now) c.args.path.now c.args.devices.now

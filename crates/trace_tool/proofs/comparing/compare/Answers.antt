@@ -24,7 +24,7 @@ returns-in_err-put_good-in-Ok-clause-says g c =
     (said_front _ (Good _)
     (is_good c.args.devices.now c.args.text.now c.in-Ok.n _ c.requires.few ((exactly (new_board c.args.devices.now) board).0 refl)
     (ok c.in-Ok.n refl (new_board c.args.devices.now) board))
-    (rw (c.deref-in-Ok.ensures.value, c.deref-in-Ok-2.ensures.value ∙ c.in_ok-places.ensures.places) at c.in_err-put_good-in-Ok.ensures.put.front))
+    (rw (c.deref-in-Ok.ensures.value, c.deref-in-Ok-2.ensures.value ∙ c.in_ok-places.ensures.places) at c.in_err-put_good-in-Ok.ensures))
 
 pub returns-in-Ok-clause-says : goal.returns-in-Ok-clause-says
 returns-in-Ok-clause-says g c =
@@ -35,7 +35,7 @@ returns-in-Ok-clause-says g c =
     said_text _
     (is_good c.args.devices.now c.args.text.now c.in-Ok.n _ c.requires.few ((exactly (new_board c.args.devices.now) board).0 refl)
     (ok c.in-Ok.n refl (new_board c.args.devices.now) board))
-    (rw (c.deref-in-Ok.ensures.value, c.deref-in-Ok-2.ensures.value ∙ c.in_ok-places.ensures.places) at c.in_ok-put_good-in-Ok.ensures.put.ok)
+    (rw (c.deref-in-Ok.ensures.value, c.deref-in-Ok-2.ensures.value ∙ c.in_ok-places.ensures.places) at c.in_ok-put_good-in-Ok.ensures)
 
 pub returns-in-Ok-clause-rack : goal.returns-in-Ok-clause-rack
 returns-in-Ok-clause-rack g c =
@@ -52,7 +52,7 @@ returns-in_err-put_differs-in-Err-Differs-clause-says g c =
     (said_front _ (Differs _)
     (is_other c.args.devices.now c.args.text.now i _ c.requires.few (c.in-Err-Differs.ensures.decided_first i is)
     (differs i is (new_board c.args.devices.now) c.in_ok-places.ensures.cards))
-    c.in_err-put_differs-in-Err-Differs.ensures.put.front)
+    c.in_err-put_differs-in-Err-Differs.ensures)
 
 pub returns-in-Err-Differs-clause-says : goal.returns-in-Err-Differs-clause-says
 returns-in-Err-Differs-clause-says g c =
@@ -62,7 +62,7 @@ returns-in-Err-Differs-clause-says g c =
     said_text _
     (is_other c.args.devices.now c.args.text.now i _ c.requires.few (c.in-Err-Differs.ensures.decided_first i is)
     (differs i is (new_board c.args.devices.now) c.in_ok-places.ensures.cards))
-    c.in_ok-put_differs-in-Err-Differs.ensures.put.ok
+    c.in_ok-put_differs-in-Err-Differs.ensures
 
 pub returns-in_err-put_bad_line-in-Err-BadLine-clause-says : goal.returns-in_err-put_bad_line-in-Err-BadLine-clause-says
 returns-in_err-put_bad_line-in-Err-BadLine-clause-says g c =
@@ -70,11 +70,11 @@ returns-in_err-put_bad_line-in-Err-BadLine-clause-says g c =
     says_failed _ _ _ _ _ c.from_residual-in_err-put_bad_line-in-Err-BadLine.result c.from_residual-in_err-put_bad_line-in-Err-BadLine.ensures.1
     (said_front _ (BadLine _)
     (is_bad c.args.devices.now c.args.text.now n c.requires.few (c.in-Err-BadLine.ensures.bad_line n (ap Err c.in-Err-BadLine.field-0-is)))
-    c.in_err-put_bad_line-in-Err-BadLine.ensures.put.front)
+    c.in_err-put_bad_line-in-Err-BadLine.ensures)
 
 pub returns-clause-says : goal.returns-clause-says
 returns-clause-says g c =
     let n = c.in-Err-BadLine.n in
     said_text _
     (is_bad c.args.devices.now c.args.text.now n c.requires.few (c.in-Err-BadLine.ensures.bad_line n (ap Err c.in-Err-BadLine.field-0-is)))
-    c.in_ok-put_bad_line-in-Err-BadLine.ensures.put.ok
+    c.in_ok-put_bad_line-in-Err-BadLine.ensures

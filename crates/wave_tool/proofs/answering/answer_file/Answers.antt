@@ -9,21 +9,21 @@ use Rattle.wave_tool.proofs.answering.answer_file.Goals as goal
 pub returns-in-Ok-clause-says : goal.returns-in-Ok-clause-says
 returns-in-Ok-clause-says g c =
     of_whole_file (g.S.Shelf.told c.args.shelf.now) c.args.path.now c.in-Ok.bytes.items c.in-Ok.ensures.whole
-    (says_within _ _ _ _ _ c.answer_text.result (record { to = λ text status a. a }) (λ none. absurd none) (rw c.deref.ensures.value at c.answer_text.ensures.says))
+    (says_within _ _ _ _ _ c.answer_text.result (record { to = λ text status a. a }) (λ none. absurd none) (rw c.deref.ensures.value at c.answer_text.ensures))
 
 pub returns-in_err-put_too_long-in-Err-TooLong-clause-says : goal.returns-in_err-put_too_long-in-Err-TooLong-clause-says
 returns-in_err-put_too_long-in-Err-TooLong-clause-says g c =
     of_file_as (λ held more. says_failed _ _ _ _ _ c.from_residual.result c.from_residual.ensures.1
-    (said_front _ TooLong (long_answer held more) c.in_err-put_too_long-in-Err-TooLong.ensures.put.front))
+    (said_front _ TooLong (long_answer held more) c.in_err-put_too_long-in-Err-TooLong.ensures))
     (of_long_file (g.S.Shelf.told c.args.shelf.now) c.args.path.now trace_limit (c.in-Err-TooLong.ensures.long (ap Err c.in-Err-TooLong.field-0-is)))
 
 pub returns-in_ok-put_too_long-in-Err-TooLong-clause-says : goal.returns-in_ok-put_too_long-in-Err-TooLong-clause-says
 returns-in_ok-put_too_long-in-Err-TooLong-clause-says g c =
-    of_file_as (λ held more. said_text _ (long_answer held more) c.in_ok-put_too_long-in-Err-TooLong.ensures.put.ok)
+    of_file_as (λ held more. said_text _ (long_answer held more) c.in_ok-put_too_long-in-Err-TooLong.ensures)
     (of_long_file (g.S.Shelf.told c.args.shelf.now) c.args.path.now trace_limit (c.in-Err-TooLong.ensures.long (ap Err c.in-Err-TooLong.field-0-is)))
 
 pub returns-in-Err-ReadFault-clause-says : goal.returns-in-Err-ReadFault-clause-says
-returns-in-Err-ReadFault-clause-says g c = of_any_file (g.S.Shelf.told c.args.shelf.now) (Some c.args.path.now) (λ held. refl)
+returns-in-Err-ReadFault-clause-says g c = of_any_file (g.S.Shelf.told c.args.shelf.now) (Some c.args.path.now) (λ held. (refl, refl))
 
 pub returns-in-Err-Memory-clause-says : goal.returns-in-Err-Memory-clause-says
-returns-in-Err-Memory-clause-says g c = of_any_file (g.S.Shelf.told c.args.shelf.now) (Some c.args.path.now) (λ held. refl)
+returns-in-Err-Memory-clause-says g c = of_any_file (g.S.Shelf.told c.args.shelf.now) (Some c.args.path.now) (λ held. (refl, refl))

@@ -1,9 +1,8 @@
-use Rattle.std.proofs.Common.{rules, ◌≡◌, ℕ, Bool, List, ◌-◌, ◌*◌, ◌/◌, ◌++◌, take, refl, sym, arith}
+use Rattle.std.proofs.Common.{◌≡◌, ℕ, Bool, List, ◌-◌, ◌*◌, ◌/◌, ◌++◌, take, refl, sym, arith}
 use Rattle.base.specs.Bits.{low_bits}
 use Rattle.bit_list.specs.Hexadecimal.{all_hex_digits}
 use Rattle.bit_list.proofs.HexDigits.{word_fits, digits_down}
-use Rattle.tool_io.proofs.CauseLemmas.{kept_start, kept_then}
-use Rattle.tool_io.proofs.PutLemmas.{put_failed, put_done}
+use Rattle.tool_io.proofs.PutLemmas.{put_failed}
 use Rattle.stapl_meaning.specs.Values.{span_bits}
 use Rattle.machine_memory.specs.Arrays.{span_in}
 use Rattle.machine_memory.proofs.SpanLemmas.{length_span}
@@ -14,11 +13,8 @@ pub down-init : goal.down-init
 down-init g c =
     let span = c.args.span in let bits = c.args.bits.now in
     record {
-      same_sink = refl;
-      whole = c.requires.whole;
       below = omega arith;
-      puts = no_word (span_bits (span_in span) bits) c.args.out.now span.count (sym (length_span span bits c.requires.inside));
-      kept = kept_start _ _;
+      puts = no_word (span_bits (span_in span) bits) c.args.out.now span.count c.requires.whole (sym (length_span span bits c.requires.inside));
     }
 
 pub put_hex-requires-clause-fits : goal.put_hex-requires-clause-fits
@@ -32,25 +28,22 @@ down-preserved g c =
     let span = c.args.span in let bits = c.args.bits.now in let list : List Bool = span_bits (span_in span) bits in
     let left : ℕ = c.down.left in let at : ℕ = (left - 1) / 64 * 64 in
     record {
-      same_sink = search rules;
-      whole = search rules;
       below = omega (arith, c.down.invariant.below);
       puts = word_more list left at (all_hex_digits (low_bits (left - at) c.part_word.result))
           (digits_down left at c.part_word.result list (omega arith)
           (omega (arith, c.down.invariant.below, length_span span bits c.requires.inside)) (omega arith) c.part_word.ensures)
-          c.down.invariant.puts c.in_ok-put_hex.ensures.put.ok;
-      kept = kept_then c.down.invariant.kept c.in_ok-put_hex.ensures.kept.cause.kept;
+          c.down.invariant.puts c.in_ok-put_hex.ensures;
     }
 
-pub returns-in_err-put_hex-clause-put : goal.returns-in_err-put_hex-clause-put
-returns-in_err-put_hex-clause-put g c =
+pub returns-in_err-put_hex : goal.returns-in_err-put_hex
+returns-in_err-put_hex g c =
     let span = c.args.span in let bits = c.args.bits.now in let list : List Bool = span_bits (span_in span) bits in
     let left : ℕ = c.down.left in let at : ℕ = (left - 1) / 64 * 64 in
     put_failed c.from_residual.result c.from_residual.ensures.0
     (word_front list left at (all_hex_digits (low_bits (left - at) c.part_word.result))
     (digits_down left at c.part_word.result list (omega arith)
     (omega (arith, c.down.invariant.below, length_span span bits c.requires.inside)) (omega arith) c.part_word.ensures)
-    c.down.invariant.puts c.in_err-put_hex.ensures.put.front)
+    c.down.invariant.puts c.in_err-put_hex.ensures)
 
-pub returns-clause-put : goal.returns-clause-put
-returns-clause-put g c = put_done (digits_put (span_bits (span_in c.args.span) c.args.bits.now) c.down.left (omega arith) c.down.invariant.puts)
+pub returns : goal.returns
+returns g c = digits_put (span_bits (span_in c.args.span) c.args.bits.now) c.down.left (omega arith) c.down.invariant.puts

@@ -2,47 +2,47 @@ use Rattle.std.proofs.Common.{[], ◌∷◌}
 use Rattle.std.specs.Prelude.{codes}
 use Rattle.stapl_meaning.specs.Texts.{export_text}
 use Rattle.tool_io.specs.Texts.{escaped}
-use Rattle.tool_io.proofs.PutLemmas.{put_then, put_then_front, front_with, put_failed, put_done}
+use Rattle.tool_io.proofs.PutLemmas.{put_then, put_then_front, front_with, put_failed}
 use Rattle.machine_memory.specs.Exports.{value_exported}
 use Rattle.written_cable.proofs.line_writer.put_line.Goals as goal
 
-pub returns-in_err-put-clause-put : goal.returns-in_err-put-clause-put
-returns-in_err-put-clause-put g c =
+pub returns-in_err-put : goal.returns-in_err-put
+returns-in_err-put g c =
     let text = export_text (value_exported c.args.literals.now c.args.variables.now c.args.value) in
     put_failed c.from_residual.result c.from_residual.ensures.0
-    (front_with (10 ∷ []) (front_with text (front_with (codes " = ") (front_with (escaped c.args.key.now) c.in_err-put.ensures.put.front))))
+    (front_with (10 ∷ []) (front_with text (front_with (codes " = ") (front_with (escaped c.args.key.now) c.in_err-put.ensures.put))))
 
-pub returns-in_err-put_escaped-clause-put : goal.returns-in_err-put_escaped-clause-put
-returns-in_err-put_escaped-clause-put g c =
+pub returns-in_err-put_escaped : goal.returns-in_err-put_escaped
+returns-in_err-put_escaped g c =
     let text = export_text (value_exported c.args.literals.now c.args.variables.now c.args.value) in
     put_failed c.from_residual-in_err-put_escaped.result c.from_residual-in_err-put_escaped.ensures.0
-    (front_with (10 ∷ []) (front_with text (front_with (codes " = ") (put_then_front c.in_ok-put.ensures.put.ok c.in_err-put_escaped.ensures.put.front))))
+    (front_with (10 ∷ []) (front_with text (front_with (codes " = ") (put_then_front c.in_ok-put.ensures.put c.in_err-put_escaped.ensures))))
 
-pub returns-in_err-put-2-clause-put : goal.returns-in_err-put-2-clause-put
-returns-in_err-put-2-clause-put g c =
+pub returns-in_err-put-2 : goal.returns-in_err-put-2
+returns-in_err-put-2 g c =
     let text = export_text (value_exported c.args.literals.now c.args.variables.now c.args.value) in
     put_failed c.from_residual-in_err-put-2.result c.from_residual-in_err-put-2.ensures.0
     (front_with (10 ∷ []) (front_with text
-    (put_then_front (put_then c.in_ok-put.ensures.put.ok c.in_ok-put_escaped.ensures.put.ok) c.in_err-put-2.ensures.put.front)))
+    (put_then_front (put_then c.in_ok-put.ensures.put c.in_ok-put_escaped.ensures) c.in_err-put-2.ensures.put)))
 
-pub returns-in_err-put_exported-clause-put : goal.returns-in_err-put_exported-clause-put
-returns-in_err-put_exported-clause-put g c =
+pub returns-in_err-put_exported : goal.returns-in_err-put_exported
+returns-in_err-put_exported g c =
     put_failed c.from_residual-in_err-put_exported.result c.from_residual-in_err-put_exported.ensures.0
     (front_with (10 ∷ [])
-    (put_then_front (put_then (put_then c.in_ok-put.ensures.put.ok c.in_ok-put_escaped.ensures.put.ok) c.in_ok-put-2.ensures.put.ok)
-    c.in_err-put_exported.ensures.put.front))
+    (put_then_front (put_then (put_then c.in_ok-put.ensures.put c.in_ok-put_escaped.ensures) c.in_ok-put-2.ensures.put)
+    c.in_err-put_exported.ensures))
 
-pub returns-in_err-put-3-clause-put : goal.returns-in_err-put-3-clause-put
-returns-in_err-put-3-clause-put g c =
+pub returns-in_err-put-3 : goal.returns-in_err-put-3
+returns-in_err-put-3 g c =
     put_failed c.from_residual-in_err-put-3.result c.from_residual-in_err-put-3.ensures.0
     (put_then_front
-    (put_then (put_then (put_then c.in_ok-put.ensures.put.ok c.in_ok-put_escaped.ensures.put.ok) c.in_ok-put-2.ensures.put.ok)
-    c.in_ok-put_exported.ensures.put.ok)
-    c.in_err-put-3.ensures.put.front)
+    (put_then (put_then (put_then c.in_ok-put.ensures.put c.in_ok-put_escaped.ensures) c.in_ok-put-2.ensures.put)
+    c.in_ok-put_exported.ensures)
+    c.in_err-put-3.ensures.put)
 
-pub returns-clause-put : goal.returns-clause-put
-returns-clause-put g c =
-    put_done (put_then
-    (put_then (put_then (put_then c.in_ok-put.ensures.put.ok c.in_ok-put_escaped.ensures.put.ok) c.in_ok-put-2.ensures.put.ok)
-    c.in_ok-put_exported.ensures.put.ok)
-    c.in_ok-put-3.ensures.put.ok)
+pub returns : goal.returns
+returns g c =
+    (put_then
+    (put_then (put_then (put_then c.in_ok-put.ensures.put c.in_ok-put_escaped.ensures) c.in_ok-put-2.ensures.put)
+    c.in_ok-put_exported.ensures)
+    c.in_ok-put-3.ensures.put)

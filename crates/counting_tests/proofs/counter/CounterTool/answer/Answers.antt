@@ -20,13 +20,13 @@ pub returns-in_err-put_usage-in-None-clause-answers : goal.returns-in_err-put_us
 returns-in_err-put_usage-in-None-clause-answers g c =
     of_no_file (g.S.Shelf.told c.args.shelf.now) (NamesBoard (map (string_bytes {Z = Global}) c.args.words.now)) c.in-None.ensures.none (record {
       says = says_failed _ _ _ _ _ c.from_residual.result c.from_residual.ensures.1
-          (said_front _ Usage (usage c.in-None.ensures.none) c.in_err-put_usage-in-None.ensures.put.front);
+          (said_front _ Usage (usage c.in-None.ensures.none) c.in_err-put_usage-in-None.ensures);
       left = tt;
     })
 
 pub returns-in_ok-put_usage-in-None-clause-answers : goal.returns-in_ok-put_usage-in-None-clause-answers
 returns-in_ok-put_usage-in-None-clause-answers g c =
     of_no_file (g.S.Shelf.told c.args.shelf.now) (NamesBoard (map (string_bytes {Z = Global}) c.args.words.now)) c.in-None.ensures.none (record {
-      says = said_text _ (usage c.in-None.ensures.none) c.in_ok-put_usage-in-None.ensures.put.ok;
+      says = said_text _ (usage c.in-None.ensures.none) c.in_ok-put_usage-in-None.ensures;
       left = tt;
     })

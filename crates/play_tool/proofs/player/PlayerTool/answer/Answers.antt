@@ -15,7 +15,7 @@ pub returns-in-Ok-clause-answers : goal.returns-in-Ok-clause-answers
 returns-in-Ok-clause-answers g c =
     let asks = c.in-Ok.ensures.request in
     of_request (g.S.Shelf.told c.args.shelf.now) asks c.answer_request.ensures.answers (λ contents a.
-    let b = said_and_left_as g.K.Sink.written c.answer_request.result
+    let b = said_and_left_as g.K.Sink c.answer_request.result
     (request_in_words {words = map (string_bytes {Z = Global}) c.args.words.now} {contents_of = λ request. contents} asks)
     (λ (playing : IsPlaying c.in-Ok.request). record { request = c.in-Ok.request; asked = asks; playing = playing })
     (λ (q : AskForPlay (map (string_bytes {Z = Global}) c.args.words.now)). subst IsPlaying (one_request q.asked asks) q.playing)
@@ -35,7 +35,7 @@ returns-in_err-put_usage-in-Err-Usage-clause-answers g c =
     let refused : IsUsage words c.in-Err-Usage.n = subst (IsWordsRefused words) c.in-Err-Usage.field-0-is c.in-Err-Usage.ensures.refused in
     of_no_request (g.S.Shelf.told c.args.shelf.now) (λ request asks. no_usage asks refused) (λ contents. record {
       says = says_failed _ _ _ _ _ c.from_residual.result c.from_residual.ensures.1
-          (said_front _ (Usage _) (usage _ (usage_is (sym c.in-Err-Usage.n-is) refused)) c.in_err-put_usage-in-Err-Usage.ensures.put.front);
+          (said_front _ (Usage _) (usage _ (usage_is (sym c.in-Err-Usage.n-is) refused)) c.in_err-put_usage-in-Err-Usage.ensures);
       left = left_failed c.from_residual.result c.from_residual.ensures.1;
     })
 
@@ -44,10 +44,10 @@ returns-in_ok-put_usage-in-Err-Usage-clause-answers g c =
     let words : List (List ℕ) = map (string_bytes {Z = Global}) c.args.words.now in
     let refused : IsUsage words c.in-Err-Usage.n = subst (IsWordsRefused words) c.in-Err-Usage.field-0-is c.in-Err-Usage.ensures.refused in
     of_no_request (g.S.Shelf.told c.args.shelf.now) (λ request asks. no_usage asks refused) (λ contents. record {
-      says = said_text _ (usage _ (usage_is (sym c.in-Err-Usage.n-is) refused)) c.in_ok-put_usage-in-Err-Usage.ensures.put.ok;
+      says = said_text _ (usage _ (usage_is (sym c.in-Err-Usage.n-is) refused)) c.in_ok-put_usage-in-Err-Usage.ensures;
       left = left_refused (Usage _) (λ p. p);
     })
 
 pub returns-in-Err-Memory-clause-answers : goal.returns-in-Err-Memory-clause-answers
 returns-in-Err-Memory-clause-answers g c =
-    of_any_words (g.S.Shelf.told c.args.shelf.now) (map (string_bytes {Z = Global}) c.args.words.now) (λ contents. record { says = refl; left = left_unread Memory })
+    of_any_words (g.S.Shelf.told c.args.shelf.now) (map (string_bytes {Z = Global}) c.args.words.now) (λ contents. record { says = (refl, refl); left = left_unread Memory })

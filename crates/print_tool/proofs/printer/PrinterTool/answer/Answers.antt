@@ -25,7 +25,7 @@ returns-in_err-put_usage-in-Err-clause-answers g c =
     let words : List (List ℕ) = map (string_bytes {Z = Global}) c.args.words.now in
     of_no_file (g.S.Shelf.told c.args.shelf.now) (NamesProgram words) (λ path named. refused_names_none words c.in-Err.n path c.in-Err.ensures.usage named) (record {
       says = says_failed _ _ _ _ _ c.from_residual.result c.from_residual.ensures.1
-          (said_front _ (Usage c.in-Err.n) (usage c.in-Err.n c.in-Err.ensures.usage) c.in_err-put_usage-in-Err.ensures.put.front);
+          (said_front _ (Usage c.in-Err.n) (usage c.in-Err.n c.in-Err.ensures.usage) c.in_err-put_usage-in-Err.ensures);
       left = tt;
     })
 
@@ -33,6 +33,6 @@ pub returns-in_ok-put_usage-in-Err-clause-answers : goal.returns-in_ok-put_usage
 returns-in_ok-put_usage-in-Err-clause-answers g c =
     let words : List (List ℕ) = map (string_bytes {Z = Global}) c.args.words.now in
     of_no_file (g.S.Shelf.told c.args.shelf.now) (NamesProgram words) (λ path named. refused_names_none words c.in-Err.n path c.in-Err.ensures.usage named) (record {
-      says = said_text _ (usage c.in-Err.n c.in-Err.ensures.usage) c.in_ok-put_usage-in-Err.ensures.put.ok;
+      says = said_text _ (usage c.in-Err.n c.in-Err.ensures.usage) c.in_ok-put_usage-in-Err.ensures;
       left = tt;
     })

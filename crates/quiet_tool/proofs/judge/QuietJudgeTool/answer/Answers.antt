@@ -29,7 +29,7 @@ returns-in_err-put_usage-in-Err-Usage-clause-answers g c =
     let refused : HasUsage words c.in-Err-Usage.n = subst (IsRefused words) c.in-Err-Usage.field-0-is c.in-Err-Usage.ensures.refused in
     of_no_request (g.S.Shelf.told c.args.shelf.now) (no_request words _ refused) (λ contents. record {
       says = says_failed _ _ _ _ _ c.from_residual.result c.from_residual.ensures.1
-          (said_front _ (Usage _) (usage _ (usage_is (sym c.in-Err-Usage.n-is) refused)) c.in_err-put_usage-in-Err-Usage.ensures.put.front);
+          (said_front _ (Usage _) (usage _ (usage_is (sym c.in-Err-Usage.n-is) refused)) c.in_err-put_usage-in-Err-Usage.ensures);
       left = tt;
     })
 
@@ -38,10 +38,10 @@ returns-in_ok-put_usage-in-Err-Usage-clause-answers g c =
     let words : List (List ℕ) = map (string_bytes {Z = Global}) c.args.words.now in
     let refused : HasUsage words c.in-Err-Usage.n = subst (IsRefused words) c.in-Err-Usage.field-0-is c.in-Err-Usage.ensures.refused in
     of_no_request (g.S.Shelf.told c.args.shelf.now) (no_request words _ refused) (λ contents. record {
-      says = said_text _ (usage _ (usage_is (sym c.in-Err-Usage.n-is) refused)) c.in_ok-put_usage-in-Err-Usage.ensures.put.ok;
+      says = said_text _ (usage _ (usage_is (sym c.in-Err-Usage.n-is) refused)) c.in_ok-put_usage-in-Err-Usage.ensures;
       left = tt;
     })
 
 pub returns-in-Err-Memory-clause-answers : goal.returns-in-Err-Memory-clause-answers
 returns-in-Err-Memory-clause-answers g c =
-    of_any_words (g.S.Shelf.told c.args.shelf.now) (play_words (map (string_bytes {Z = Global}) c.args.words.now)) (λ contents. record { says = refl; left = tt })
+    of_any_words (g.S.Shelf.told c.args.shelf.now) (play_words (map (string_bytes {Z = Global}) c.args.words.now)) (λ contents. record { says = (refl, refl); left = tt })

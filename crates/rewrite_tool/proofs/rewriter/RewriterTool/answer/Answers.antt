@@ -13,7 +13,7 @@ use Rattle.rewrite_tool.proofs.rewriter.RewriterTool.answer.Goals as goal
 pub returns-in-Ok-clause-answers : goal.returns-in-Ok-clause-answers
 returns-in-Ok-clause-answers g c =
     of_both_files (Asks (map (string_bytes {Z = Global}) c.args.words.now)) (g.S.Shelf.told c.args.shelf.now) (λ contents says. record { says = says; left = tt })
-    (words_of_request g.K.Sink.written _ _ (g.S.Shelf.told c.args.shelf.now) (request_of c.in-Ok.named) c.answer_request.result c.in-Ok.ensures.request
+    (words_of_request g.K.Sink _ _ (g.S.Shelf.told c.args.shelf.now) (request_of c.in-Ok.named) c.answer_request.result c.in-Ok.ensures.request
     c.answer_request.ensures.says)
 
 pub returns-in-Ok-clause-shelf : goal.returns-in-Ok-clause-shelf
@@ -28,10 +28,10 @@ returns-in_err-put_usage-in-Err-clause-answers g c =
     of_both_files (Asks (map (string_bytes {Z = Global}) c.args.words.now)) (g.S.Shelf.told c.args.shelf.now) (λ contents says. record { says = says; left = tt })
     (of_no_request (g.S.Shelf.told c.args.shelf.now) (λ request asks. no_usage _ request c.in-Err.n asks c.in-Err.ensures.usage)
     (λ contents. says_failed _ _ _ _ _ c.from_residual.result c.from_residual.ensures.1
-    (said_front (usage_line c.in-Err.n) (Usage c.in-Err.n) (usage c.in-Err.n c.in-Err.ensures.usage) c.in_err-put_usage-in-Err.ensures.put.front)))
+    (said_front (usage_line c.in-Err.n) (Usage c.in-Err.n) (usage c.in-Err.n c.in-Err.ensures.usage) c.in_err-put_usage-in-Err.ensures)))
 
 pub returns-in_ok-put_usage-in-Err-clause-answers : goal.returns-in_ok-put_usage-in-Err-clause-answers
 returns-in_ok-put_usage-in-Err-clause-answers g c =
     of_both_files (Asks (map (string_bytes {Z = Global}) c.args.words.now)) (g.S.Shelf.told c.args.shelf.now) (λ contents says. record { says = says; left = tt })
     (of_no_request (g.S.Shelf.told c.args.shelf.now) (λ request asks. no_usage _ request c.in-Err.n asks c.in-Err.ensures.usage)
-    (λ contents. said_text (usage_line c.in-Err.n) (usage c.in-Err.n c.in-Err.ensures.usage) c.in_ok-put_usage-in-Err.ensures.put.ok))
+    (λ contents. said_text (usage_line c.in-Err.n) (usage c.in-Err.n c.in-Err.ensures.usage) c.in_ok-put_usage-in-Err.ensures))

@@ -10,7 +10,7 @@ pub returns-in-Some-clause-answers : goal.returns-in-Some-clause-answers
 returns-in-Some-clause-answers g c =
     let words : List (List ℕ) = map (string_bytes {Z = Global}) c.args.words.now in
     of_no_file (g.S.Shelf.told c.args.shelf.now) (IsAskedOf words) (λ path is. no_both words _ is.rest c.in-Some.ensures.some is.words_are) (record {
-      says = says_within _ _ _ _ _ c.answer_word.result (record { to = λ text status a. of_word _ c.in-Some.ensures.some a }) (λ none. absurd none) c.answer_word.ensures.says;
+      says = says_within _ _ _ _ _ c.answer_word.result (record { to = λ text status a. of_word _ c.in-Some.ensures.some a }) (λ none. absurd none) c.answer_word.ensures;
       left = tt;
     })
 
@@ -19,7 +19,7 @@ returns-in_default-words_after-clause-answers g c =
     let words : List (List ℕ) = map (string_bytes {Z = Global}) c.args.words.now in
     let none : ask_question words ≡ false = no_question_of words c.in_default.ensures.none c.in_default-words_after.ensures.none in
     of_no_file (g.S.Shelf.told c.args.shelf.now) (IsAskedOf words) (λ path is. asks words is.rest (codes "--piece") is.words_are refl none) (record {
-      says = says_within _ _ _ _ _ c.refuse.result (record { to = λ text status a. no_question none a }) (λ none. absurd none) c.refuse.ensures.says;
+      says = says_within _ _ _ _ _ c.refuse.result (record { to = λ text status a. no_question none a }) (λ none. absurd none) c.refuse.ensures;
       left = tt;
     })
 
@@ -48,6 +48,6 @@ returns-in-Err-clause-answers g c =
     of_no_file (g.S.Shelf.told c.args.shelf.now) (IsAskedOf words)
     (λ path is. refused_names_none words _ c.in-Err.n path c.in-Some-words_after.ensures.some c.in-Err.ensures.usage is) (record {
       says = says_within _ _ _ _ _ c.refuse-in-Err.result
-          (record { to = λ text status a. of_piece _ c.in-Some-words_after.ensures.some (refused c.in-Err.n c.in-Err.ensures.usage a) }) (λ none. absurd none) c.refuse-in-Err.ensures.says;
+          (record { to = λ text status a. of_piece _ c.in-Some-words_after.ensures.some (refused c.in-Err.n c.in-Err.ensures.usage a) }) (λ none. absurd none) c.refuse-in-Err.ensures;
       left = tt;
     })

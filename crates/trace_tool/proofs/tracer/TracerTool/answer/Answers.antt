@@ -15,7 +15,7 @@ pub returns-in-Ok-clause-answers : goal.returns-in-Ok-clause-answers
 returns-in-Ok-clause-answers g c =
     let words : List (List ℕ) = map (string_bytes {Z = Global}) c.args.words.now in
     of_both_files (IsRequest trace_key words) (g.S.Shelf.told c.args.shelf.now) (λ contents a. record { says = a.says; left = a.left })
-    (words_of_request g.K.Sink.written _ _ _ _ _ _ (g.S.Shelf.told c.args.shelf.now) (files_named c.in-Ok.named) c.answer_request.result c.in-Ok.ensures.request
+    (words_of_request g.K.Sink _ _ _ _ _ _ (g.S.Shelf.told c.args.shelf.now) (files_named c.in-Ok.named) c.answer_request.result c.in-Ok.ensures.request
     c.answer_request.ensures.answers)
 
 pub returns-in-Ok-clause-shelf : goal.returns-in-Ok-clause-shelf
@@ -31,7 +31,7 @@ returns-in_err-put_usage-in-Err-clause-answers g c =
     of_both_files (IsRequest trace_key words) (g.S.Shelf.told c.args.shelf.now) (λ contents a. a)
     (of_no_request trace_key (g.S.Shelf.told c.args.shelf.now) (λ named asks. no_usage trace_key _ named c.in-Err.n asks c.in-Err.ensures.usage) (λ contents. record {
       says = says_failed _ _ _ _ _ c.from_residual.result c.from_residual.ensures.1
-          (said_front (usage_line c.in-Err.n) (Usage c.in-Err.n) (usage c.in-Err.n c.in-Err.ensures.usage) c.in_err-put_usage-in-Err.ensures.put.front);
+          (said_front (usage_line c.in-Err.n) (Usage c.in-Err.n) (usage c.in-Err.n c.in-Err.ensures.usage) c.in_err-put_usage-in-Err.ensures);
       left = rack_failed c.from_residual.result c.from_residual.ensures.1;
     }))
 
@@ -40,6 +40,6 @@ returns-in_ok-put_usage-in-Err-clause-answers g c =
     let words : List (List ℕ) = map (string_bytes {Z = Global}) c.args.words.now in
     of_both_files (IsRequest trace_key words) (g.S.Shelf.told c.args.shelf.now) (λ contents a. a)
     (of_no_request trace_key (g.S.Shelf.told c.args.shelf.now) (λ named asks. no_usage trace_key _ named c.in-Err.n asks c.in-Err.ensures.usage) (λ contents. record {
-      says = said_text (usage_line c.in-Err.n) (usage c.in-Err.n c.in-Err.ensures.usage) c.in_ok-put_usage-in-Err.ensures.put.ok;
+      says = said_text (usage_line c.in-Err.n) (usage c.in-Err.n c.in-Err.ensures.usage) c.in_ok-put_usage-in-Err.ensures;
       left = rack_same (Usage c.in-Err.n) (λ p. p);
     }))
