@@ -2,10 +2,8 @@
 use Rattle.std.proofs.Common.{◌≡◌, ℕ, List, [], Option, Result, Ok, Err, ap, sym, ◌∙◌}
 use Rattle.std.specs.Prelude.{IsErrAnd, IfOk}
 use Rattle.tool_io.specs.declared.lines.Lines.{Lines}
-use Rattle.tool_io.specs.Causes.{HasRisen, NeverFalls}
-use Rattle.tool_io.specs.Lines.{gathered, sink_of, taken, IsSilent, Puts, PutsBroken}
+use Rattle.tool_io.specs.Lines.{gathered, taken, IsSilent, Puts, PutsBroken}
 use Rattle.tool_io.specs.declared.outside.Sink.{Ghosts as SinkOf}
-use Rattle.tool_io.proofs.CauseLemmas.{kept_start, kept_then, rose_after}
 use Rattle.tool_io.proofs.PutLemmas.{puts_end, front_end, all_written, front_written}
 use Rattle.tool_frame.specs.declared.no_answer.NoAnswer.{NoAnswer}
 use Rattle.tool_frame.specs.declared.no_answer.NoAnswer.TheVariants.{Read, Write, Memory}
@@ -85,20 +83,3 @@ not_answered sink A old new Read (Err x) is empty first last same says = rw is (
 not_answered sink A old new Write (Err x) is empty first last same says =
     rw is (record { text = says.text; status = says.status; answer = says.answer; front = rw (first, last) (front_written empty says.puts) })
 not_answered sink A old new Memory (Err x) is empty first last same says = rw is (last ∙ ap sink.written says.1 ∙ sym first)
-
--- the count of the sink under lines that nothing has reached
-silent_kept : {K : Type 0} (sink : SinkOf K) (old new : Lines K) → IsSilent old new → NeverFalls sink.faults sink.is_last (sink_of old) (sink_of new)
-silent_kept sink old new same = rw same.1 (kept_start _ _)
-
--- and under lines into which no answer was put
-pub not_answered_kept : {K S : Type 0} (sink : SinkOf K) (A : List ℕ → S → Type 0) {R : Type 0} (old new : Lines K) (e : NoAnswer) → (R → IsSilent old new) →
-    Says sink A R old new (Err e) → NeverFalls sink.faults sink.is_last (sink_of old) (sink_of new)
-not_answered_kept sink A old new Read same says = silent_kept sink old new (same says)
-not_answered_kept sink A old new Write same says = says.puts.kept
-not_answered_kept sink A old new Memory same says = silent_kept sink old new says
-
-pub not_answered_cause : {K S : Type 0} (sink : SinkOf K) (A : List ℕ → S → Type 0) (R : Type 0) (old new : Lines K) (e : NoAnswer) → Says sink A R old new (Err e) →
-    e ≡ Write → HasRisen sink.faults sink.is_last (sink_of old) (sink_of new)
-not_answered_cause sink A R old new Read says is = absurd cc
-not_answered_cause sink A R old new Write says is = says.puts.rose
-not_answered_cause sink A R old new Memory says is = absurd cc

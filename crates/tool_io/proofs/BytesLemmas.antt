@@ -32,25 +32,6 @@ pub moves_more : {a b c : Option (List ℕ)} {xs ys : List ℕ} (n : ℕ) → Mo
 moves_more {ys = ys} n first e =
     moves_then first (record { front = take n ys; parts = sym (take-append-drop n ys); written = e })
 
--- all moved
-pub moves_all : {a b : Option (List ℕ)} {xs : List ℕ} → Moves a xs b [] → b ≡ then_bytes a xs
-moves_all m = m.written ∙ ap (then_bytes _) (sym (m.parts ∙ append-nil m.front))
-
--- a move of all that there is
-pub moves_of_all : {a b : Option (List ℕ)} {xs : List ℕ} → b ≡ then_bytes a xs → Moves a xs b []
-moves_of_all {xs = xs} e = record { front = xs; parts = sym (append-nil xs); written = e }
-
--- more bytes after, which stay
-pub moves_with : {a b : Option (List ℕ)} {xs ys : List ℕ} (zs : List ℕ) → Moves a xs b ys → Moves a (xs ++ zs) b (ys ++ zs)
-moves_with zs m = record {
-  front = m.front;
-  parts = ap (λ v. v ++ zs) m.parts ∙ append_assoc m.front _ zs;
-  written = m.written;
-}
-
-pub moves_front_with : {a b : Option (List ℕ)} {xs : List ℕ} (zs : List ℕ) → MovesFront a xs b → MovesFront a (xs ++ zs) b
-moves_front_with zs m = record { rest = m.rest ++ zs; moves = moves_with zs m.moves }
-
 -- what is gathered of the rest is still to be moved
 pub regathered : (g rest : List ℕ) (n : ℕ) → (g ++ take n rest) ++ drop n rest ≡ g ++ rest
 regathered g rest n = append_assoc g (take n rest) (drop n rest) ∙ ap (λ v. g ++ v) (take-append-drop n rest)

@@ -18,22 +18,6 @@ kept_then first second = record { later = omega arith; stays = λ h. second.stay
 pub rose_after : {a b c : ℕ} {last_a last_b last_c : Type 0} → CountKept a b last_a last_b → CountRose b c last_c → CountRose a c last_c
 rose_after first second = record { risen = elim second.risen [ inl h ↦ inl (omega arith) | inr h ↦ inr h ] }
 
--- a count that rose before the second call
-pub rose_before : {a b c : ℕ} {last_b last_c : Type 0} → CountRose a b last_b → CountKept b c last_b last_c → CountRose a c last_c
-rose_before first second = record { risen = elim first.risen [ inl h ↦ inl (omega arith) | inr h ↦ inr (second.stays h) ] }
-
--- where the last of the calls fails
-pub cause_after : {T E : Type 0} {a b c : ℕ} {last_a last_b last_c : Type 0} {result : Result T E} →
-    CountKept a b last_a last_b → CountCause b c last_b last_c result → CountCause a c last_a last_c result
-cause_after {result = Ok x} first second = record { kept = kept_then first second.kept; failed = tt }
-cause_after {result = Err e} first second = record { kept = kept_then first second.kept; failed = rose_after first second.failed }
-
--- where the first of them has failed
-pub cause_before : {T E : Type 0} {a b c : ℕ} {last_a last_b last_c : Type 0} {result : Result T E} →
-    CountCause a b last_a last_b result → CountKept b c last_b last_c → CountCause a c last_a last_c result
-cause_before {result = Ok x} first second = record { kept = kept_then first.kept second; failed = tt }
-cause_before {result = Err e} first second = record { kept = kept_then first.kept second; failed = rose_before first.failed second }
-
 -- the cause of any answer, where the count rose
 pub cause_of_rose : {T E : Type 0} {a b : ℕ} {last_a last_b : Type 0} (result : Result T E) →
     CountKept a b last_a last_b → CountRose a b last_b → CountCause a b last_a last_b result

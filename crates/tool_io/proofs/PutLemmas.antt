@@ -6,7 +6,7 @@ use Rattle.std.proofs.Math.Seq.{take-suc}
 use Rattle.std.proofs.lemmas.List.{append-nil, take-append-drop}
 use Rattle.std.proofs.lemmas.Grind.{flat_map-append}
 use Rattle.tool_io.specs.declared.lines.Lines.{Lines}
-use Rattle.tool_io.specs.Bytes.{then_bytes, Moves, MovesFront}
+use Rattle.tool_io.specs.Bytes.{then_bytes, MovesFront}
 use Rattle.tool_io.specs.Lines.{gathered, taken, IsWhole, IsOverSame, IsSinkUntouched, Puts, PutsFront, PutsBroken, HasPut}
 use Rattle.tool_io.specs.declared.outside.Sink.{Ghosts as SinkOf}
 use Rattle.tool_io.proofs.BytesLemmas.{then_bytes-twice, then_bytes-nothing}
@@ -133,10 +133,6 @@ puts_end {xs = xs} first second = puts_same (append-nil xs) (put_then first seco
 pub front_end : {K : Type 0} {sink : SinkOf K} {a b c : Lines K} {xs : List ℕ} → Puts sink a xs b → PutsBroken sink b [] c → PutsBroken sink a xs c
 front_end {xs = xs} first second = front_same (append-nil xs) (put_then_front first second)
 
--- no part is put yet
-pub part_none : {K : Type 0} (sink : SinkOf K) (lines : Lines K) (bytes : List ℕ) → IsWhole lines → PutsPart sink lines bytes bytes lines
-part_none sink lines bytes whole = record { part = []; parts = refl; puts = puts_nothing sink lines whole }
-
 -- n bytes more
 pub part_more : {K : Type 0} {sink : SinkOf K} {a b c : Lines K} {bytes rest : List ℕ} (n : ℕ) → PutsPart sink a bytes rest b →
     Puts sink b (take n rest) c → PutsPart sink a bytes (drop n rest) c
@@ -145,10 +141,6 @@ part_more {rest = rest} n first second = record {
   parts = first.parts ∙ ap (λ (v : List ℕ). first.part ++ v) (sym (take-append-drop n rest)) ∙ sym (append_assoc first.part (take n rest) (drop n rest));
   puts = put_then first.puts second;
 }
-
--- nothing is left
-pub part_all : {K : Type 0} {sink : SinkOf K} {a b : Lines K} {bytes rest : List ℕ} → PutsPart sink a bytes rest b → rest ≡ [] → Puts sink a bytes b
-part_all m none = puts_same (sym (m.parts ∙ ap (λ (v : List ℕ). m.part ++ v) none ∙ append-nil m.part)) m.puts
 
 -- a call that puts nothing more fails
 pub part_front : {K : Type 0} {sink : SinkOf K} {a b c : Lines K} {bytes rest : List ℕ} → PutsPart sink a bytes rest b → PutsBroken sink b [] c →
