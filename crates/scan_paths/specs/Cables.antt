@@ -1,7 +1,7 @@
 -- What a call does to a cable: the signals that were made, the board that the cable tells, its counts of faults, and
 -- what is broken of it. A cable that tells its board is clocked as the board is (IEEE 1149.1, test access port); counts
 -- and breakages are this profile's.
-use Rattle.std.specs.Prelude.{◌≡◌, ◌+◌, ◌++◌, ◌⊎◌, ℕ, Bool, true, false, List, [], ◌∷◌, map, Option, None, Some}
+use Rattle.std.specs.Prelude.{◌≡◌, ◌+◌, ◌++◌, ◌⊎◌, ℕ, Bool, true, false, List, [], ◌∷◌, map, Option, None, Some, Result, Ok, Err, OnOk, OnErr, ◌≢◌}
 use Rattle.std.specs.Option.{option_map}
 use Rattle.tool_io.specs.Causes.{CountKept, CountRose}
 use Rattle.dev_card.specs.Card.{Card}
@@ -29,6 +29,23 @@ pub record PartCause (part : Breakage) (before now : ℕ) (last_before last_now 
 abbrev pub HasPartCause : {C : Type 0} → Breakage → (C → ℕ) → (C → Type 0) → (C → Breakage) → C → C → Type 0
 HasPartCause part faults is_last breakage before now =
     PartCause part (faults before) (faults now) (is_last before) (is_last now) (breakage now)
+
+-- What a call keeps of a cable, by its result: the cable is whole after it, or broken if the call failed, and the
+-- counts of both parts are kept, each with its cause.
+pub record CableKept {T E : Type 0} (line_before line_now : ℕ) (line_last_before line_last_now : Type 0)
+    (pins_before pins_now : ℕ) (pins_last_before pins_last_now : Type 0) (broken_now : Breakage)
+    (result : Result T E) : Type 0 where
+  pub unbroken : OnOk result (broken_now ≡ whole)
+  pub broken : OnErr result (broken_now ≢ whole)
+  pub line_cause : PartCause line line_before line_now line_last_before line_last_now broken_now
+  pub pins_cause : PartCause pins pins_before pins_now pins_last_before pins_last_now broken_now
+
+-- the same of a cable before and after the call
+abbrev pub IsCableKept : {C T E : Type 0} → (C → ℕ) → (C → Type 0) → (C → ℕ) → (C → Type 0) → (C → Breakage) → C → C →
+    Result T E → Type 0
+IsCableKept line_faults is_line_last pin_faults is_pin_last breakage old new result =
+    CableKept (line_faults old) (line_faults new) (is_line_last old) (is_line_last new) (pin_faults old)
+    (pin_faults new) (is_pin_last old) (is_pin_last new) (breakage new) result
 
 -- the count of a cable without more is the sum of its two, which stands at its last value where one of them does
 abbrev pub cable_faults : {C : Type 0} → (C → ℕ) → (C → ℕ) → C → ℕ
@@ -126,6 +143,25 @@ pub record HasMadeFront {C : Type 0} (board : C → Option (List Card)) (makes :
   pub rest : List Input
   pub parts : inputs ≡ front ++ rest
   pub made : HasBrokenOff board makes old new front
+
+-- What a call does that makes one clock, by its result: it was made, with this TDO, or it was made or not.
+abbrev pub ClockAnswer : {C E : Type 0} → (C → Option (List Card)) → (C → List Signal → C → Type 0) → C → C →
+    Bool → Bool → Result Bool E → Type 0
+ClockAnswer board makes old new tms tdi (Ok tdo) = IsClocked board makes old new tms tdi tdo
+ClockAnswer board makes old new tms tdi (Err e) = IsClockedOrNot board makes old new tms tdi
+
+-- What a call does that makes a block of clocks, by its result: they were made, with the number of their TDO bits, or
+-- a front of them was made.
+abbrev pub BlockAnswer : {C E : Type 0} → (C → Option (List Card)) → (C → List Signal → C → Type 0) → C → C →
+    List Input → Result ℕ E → Type 0
+BlockAnswer board makes old new inputs (Ok tdo) = HasShifted board makes old new inputs tdo
+BlockAnswer board makes old new inputs (Err e) = HasMadeFront board makes old new inputs
+
+-- What a call does that makes one signal that is no clock, by its result: it was made, or it was made or not.
+abbrev pub SignalAnswer : {C T E : Type 0} → (C → Option (List Card)) → (C → List Signal → C → Type 0) → C → C →
+    Signal → Result T E → Type 0
+SignalAnswer board makes old new signal (Ok x) = IsSignalled board makes old new signal
+SignalAnswer board makes old new signal (Err e) = IsSignalledOrNot board makes old new signal
 
 -- what holds of the board, where it is told
 abbrev pub WhereTold : Option (List Card) → (List Card → Type 0) → Type 0

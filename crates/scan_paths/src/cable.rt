@@ -1,9 +1,9 @@
 //! The cable to a chain of devices.
-ghost use Rattle.std.specs.Prelude.{◌≡◌, ◌≢◌, ◌≤◌, ℕ, List, [], ◌++◌, Option, Some, IfOk, OnOk, OnErr};
+ghost use Rattle.std.specs.Prelude.{◌≡◌, ◌≤◌, ℕ, List, [], ◌++◌, Option, Some};
 ghost use Rattle.dev_card.specs.Card.{Card};
 ghost use Rattle.dev_card.specs.Sound.{AllSound};
 ghost use Rattle.dev_card.specs.Blocks.{block_inputs};
-ghost use Rattle.scan_paths.specs.Cables.{Breakage, whole, line, pins, HasPartCause, Signal, Waits, Tunes, IsClocked, IsClockedOrNot, IsSignalled, IsSignalledOrNot, HasMadeFront, HasShifted};
+ghost use Rattle.scan_paths.specs.Cables.{Breakage, whole, Signal, Waits, Tunes, ClockAnswer, BlockAnswer, SignalAnswer, IsCableKept};
 
 use tool_io::Failed;
 
@@ -42,12 +42,8 @@ pub trait Cable {
     /// told before and is told then, it is as it was before the clock or as it is after it.
     fn clock(&mut self, tms: bool, tdi: bool) -> Result<bool, Failed>
         requires { breakage self.old ≡ whole }
-        ensures clocked { IfOk result (λ tdo. IsClocked board made self.old self.new tms tdi tdo) }
-        ensures failed { OnErr result (IsClockedOrNot board made self.old self.new tms tdi) }
-        ensures unbroken { OnOk result (breakage self.new ≡ whole) }
-        ensures broken { OnErr result (breakage self.new ≢ whole) }
-        ensures line { HasPartCause line line_faults is_line_last breakage self.old self.new }
-        ensures pins { HasPartCause pins pin_faults is_pin_last breakage self.old self.new };
+        ensures clocked { ClockAnswer board made self.old self.new tms tdi result }
+        ensures kept { IsCableKept line_faults is_line_last pin_faults is_pin_last breakage self.old self.new result };
 
     /// n clocks as one call: with the lowest n bits of `tdi`, the lowest first, and with TMS 0, but TMS 1 at the last
     /// of them where `last` is true. It answers the TDO bits before these clocks, the first one as the lowest, with
@@ -59,35 +55,23 @@ pub trait Cable {
         requires whole { breakage self.old ≡ whole }
         requires some { 1 ≤ n }
         requires most { n ≤ 64 }
-        ensures shifted { IfOk result (λ tdo. HasShifted board made self.old self.new (block_inputs tdi n last) tdo) }
-        ensures failed { OnErr result (HasMadeFront board made self.old self.new (block_inputs tdi n last)) }
-        ensures unbroken { OnOk result (breakage self.new ≡ whole) }
-        ensures broken { OnErr result (breakage self.new ≢ whole) }
-        ensures line { HasPartCause line line_faults is_line_last breakage self.old self.new }
-        ensures pins { HasPartCause pins pin_faults is_pin_last breakage self.old self.new };
+        ensures shifted { BlockAnswer board made self.old self.new (block_inputs tdi n last) result }
+        ensures kept { IsCableKept line_faults is_line_last pin_faults is_pin_last breakage self.old self.new result };
 
     /// Waits for n microseconds, once and without a clock: a told board stays as it is, whatever the answer. `Failed`
     /// has the cause that it has at `clock`, and then the wait was made or not.
     fn usec(&mut self, n: u32) -> Result<(), Failed>
         requires { breakage self.old ≡ whole }
-        ensures signalled { OnOk result (IsSignalled board made self.old self.new (Waits n)) }
-        ensures failed { OnErr result (IsSignalledOrNot board made self.old self.new (Waits n)) }
-        ensures unbroken { OnOk result (breakage self.new ≡ whole) }
-        ensures broken { OnErr result (breakage self.new ≢ whole) }
-        ensures line { HasPartCause line line_faults is_line_last breakage self.old self.new }
-        ensures pins { HasPartCause pins pin_faults is_pin_last breakage self.old self.new };
+        ensures signalled { SignalAnswer board made self.old self.new (Waits n) result }
+        ensures kept { IsCableKept line_faults is_line_last pin_faults is_pin_last breakage self.old self.new result };
 
     /// Sets the frequency of the clocks that follow to n hertz, or states none if n is 0, without a clock: a told board
     /// stays as it is, whatever the answer. `Failed` has the cause that it has at `clock`, and then the frequency was
     /// set or not.
     fn hertz(&mut self, n: u32) -> Result<(), Failed>
         requires { breakage self.old ≡ whole }
-        ensures signalled { OnOk result (IsSignalled board made self.old self.new (Tunes n)) }
-        ensures failed { OnErr result (IsSignalledOrNot board made self.old self.new (Tunes n)) }
-        ensures unbroken { OnOk result (breakage self.new ≡ whole) }
-        ensures broken { OnErr result (breakage self.new ≢ whole) }
-        ensures line { HasPartCause line line_faults is_line_last breakage self.old self.new }
-        ensures pins { HasPartCause pins pin_faults is_pin_last breakage self.old self.new };
+        ensures signalled { SignalAnswer board made self.old self.new (Tunes n) result }
+        ensures kept { IsCableKept line_faults is_line_last pin_faults is_pin_last breakage self.old self.new result };
 
     /// Told cards are sound.
     ghost sound: { (c : Self) (cs : List Card) → board c ≡ Some cs → AllSound cs };

@@ -1,13 +1,13 @@
 //! Moves, stays and the reset of the controllers.
-ghost use Rattle.std.specs.Prelude.{◌≡◌, ◌≢◌, IsTrue, IfOk, OnOk, OnErr};
-ghost use Rattle.tool_io.specs.Causes.{HasCause};
+ghost use Rattle.std.specs.Prelude.{◌≡◌, IsTrue, IfOk, OnOk};
 ghost use Rattle.base.specs.Bits.{low_bits};
 ghost use Rattle.tap_states.specs.declared.Tap.TheVariants.{Reset};
 ghost use Rattle.tap_states.specs.Path.{five_ones};
 ghost use Rattle.tap_states.specs.Tap.{is_stable_state};
 ghost use Rattle.dev_card.specs.Board.{AllIn};
 ghost use Rattle.dev_card.specs.Clocks.{with_zero, move_inputs, stay_inputs, rest_tms};
-ghost use Rattle.scan_paths.specs.Cables.{whole, line, pins, HasPartCause, cable_faults, IsCableLast, HasMade, HasMadeFront, WhereTold};
+ghost use Rattle.scan_paths.specs.Cables.{whole, WhereTold};
+ghost use Rattle.scan_paths.specs.CableCalls.{KeepsCable, MakesClocks};
 
 use crate::cable::Cable;
 use tap_states::Tap;
@@ -16,12 +16,8 @@ use tool_io::Failed;
 /// Clocks the lowest n bits as TMS, the lowest first, with TDI 0.
 pub fn send<C: Cable>(cable: &mut C, bits: u32, n: u32) -> Result<(), Failed>
     requires { C.breakage cable.old ≡ whole }
-    ensures made { OnOk result (HasMade C.board C.made cable.old cable.new (with_zero (low_bits n bits))) }
-    ensures front { OnErr result (HasMadeFront C.board C.made cable.old cable.new (with_zero (low_bits n bits))) }
-    ensures unbroken { OnOk result (C.breakage cable.new ≡ whole) }
-    ensures broken { OnErr result (C.breakage cable.new ≢ whole) }
-    ensures line { HasPartCause line C.line_faults C.is_line_last C.breakage cable.old cable.new }
-    ensures pins { HasPartCause pins C.pin_faults C.is_pin_last C.breakage cable.old cable.new }
+    ensures made { MakesClocks C.Cable cable.old (with_zero (low_bits n bits)) cable.new result }
+    ensures kept { KeepsCable C.Cable cable.old cable.new result }
 {
     let mut rest = bits;
     for _turn in 0..n {
@@ -40,16 +36,9 @@ pub fn send<C: Cable>(cable: &mut C, bits: u32, n: u32) -> Result<(), Failed>
 pub fn move_to<C: Cable>(cable: &mut C, at: Tap, to: Tap) -> Result<Tap, Failed>
     requires whole { C.breakage cable.old ≡ whole }
     requires at { WhereTold (C.board cable.old) (AllIn at) }
-    ensures state { IfOk result (λ state. state ≡ to) }
-    ensures arrived { OnOk result (WhereTold (C.board cable.new) (AllIn to)) }
-    ensures made { OnOk result (HasMade C.board C.made cable.old cable.new (move_inputs at to)) }
-    ensures front { OnErr result (HasMadeFront C.board C.made cable.old cable.new (move_inputs at to)) }
-    ensures unbroken { OnOk result (C.breakage cable.new ≡ whole) }
-    ensures broken { OnErr result (C.breakage cable.new ≢ whole) }
-    ensures line { HasPartCause line C.line_faults C.is_line_last C.breakage cable.old cable.new }
-    ensures pins { HasPartCause pins C.pin_faults C.is_pin_last C.breakage cable.old cable.new }
-    ensures cause { HasCause (cable_faults C.line_faults C.pin_faults)
-        (IsCableLast C.is_line_last C.is_pin_last) cable.old cable.new result }
+    ensures arrived { IfOk result (λ state. state ≡ to × WhereTold (C.board cable.new) (AllIn to)) }
+    ensures made { MakesClocks C.Cable cable.old (move_inputs at to) cable.new result }
+    ensures kept { KeepsCable C.Cable cable.old cable.new result }
 {
     let path = Tap::path(at, to);
     send(cable, path.bits, path.len)?;
@@ -65,14 +54,8 @@ pub fn move_to<C: Cable>(cable: &mut C, at: Tap, to: Tap) -> Result<Tap, Failed>
 pub fn reset_chain<C: Cable>(cable: &mut C) -> Result<(), Failed>
     requires whole { C.breakage cable.old ≡ whole }
     ensures reset { OnOk result (WhereTold (C.board cable.new) (AllIn Reset)) }
-    ensures made { OnOk result (HasMade C.board C.made cable.old cable.new (with_zero five_ones)) }
-    ensures front { OnErr result (HasMadeFront C.board C.made cable.old cable.new (with_zero five_ones)) }
-    ensures unbroken { OnOk result (C.breakage cable.new ≡ whole) }
-    ensures broken { OnErr result (C.breakage cable.new ≢ whole) }
-    ensures line { HasPartCause line C.line_faults C.is_line_last C.breakage cable.old cable.new }
-    ensures pins { HasPartCause pins C.pin_faults C.is_pin_last C.breakage cable.old cable.new }
-    ensures cause { HasCause (cable_faults C.line_faults C.pin_faults)
-        (IsCableLast C.is_line_last C.is_pin_last) cable.old cable.new result }
+    ensures made { MakesClocks C.Cable cable.old (with_zero five_ones) cable.new result }
+    ensures kept { KeepsCable C.Cable cable.old cable.new result }
 {
     let ones = Tap::path(Tap::Reset, Tap::Reset);
     send(cable, ones.bits, ones.len)?;
@@ -90,14 +73,8 @@ pub fn stay<C: Cable>(cable: &mut C, at: Tap, n: u32) -> Result<(), Failed>
     requires at { WhereTold (C.board cable.old) (AllIn at) }
     requires stable { IsTrue (is_stable_state at) }
     ensures still { OnOk result (WhereTold (C.board cable.new) (AllIn at)) }
-    ensures made { OnOk result (HasMade C.board C.made cable.old cable.new (stay_inputs at n)) }
-    ensures front { OnErr result (HasMadeFront C.board C.made cable.old cable.new (stay_inputs at n)) }
-    ensures unbroken { OnOk result (C.breakage cable.new ≡ whole) }
-    ensures broken { OnErr result (C.breakage cable.new ≢ whole) }
-    ensures line { HasPartCause line C.line_faults C.is_line_last C.breakage cable.old cable.new }
-    ensures pins { HasPartCause pins C.pin_faults C.is_pin_last C.breakage cable.old cable.new }
-    ensures cause { HasCause (cable_faults C.line_faults C.pin_faults)
-        (IsCableLast C.is_line_last C.is_pin_last) cable.old cable.new result }
+    ensures made { MakesClocks C.Cable cable.old (stay_inputs at n) cable.new result }
+    ensures kept { KeepsCable C.Cable cable.old cable.new result }
 {
     let tms = tms_at_rest(at);
     for _turn in 0..n {

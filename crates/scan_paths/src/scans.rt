@@ -1,14 +1,14 @@
 //! Scans of the devices' registers.
-ghost use Rattle.std.specs.Prelude.{◌≡◌, ◌≢◌, ◌≤◌, length, take, drop, IsTrue, IfOk, OnOk, OnErr};
-ghost use Rattle.tool_io.specs.Causes.{HasCause};
+ghost use Rattle.std.specs.Prelude.{◌≡◌, ◌≤◌, length, take, drop, IsTrue, IfOk, OnOk};
 ghost use Rattle.base.specs.Bits.{low_bits};
 ghost use Rattle.tap_states.specs.Tap.{is_stable_state};
 ghost use Rattle.dev_card.specs.Board.{AllIn};
 ghost use Rattle.dev_card.specs.Line.{pause_state};
 ghost use Rattle.dev_card.specs.Clocks.{entry_tms};
 ghost use Rattle.dev_card.specs.Scans.{captured_bits, IsScanOfEachRun};
-ghost use Rattle.scan_paths.specs.Cables.{whole, line, pins, HasPartCause, cable_faults, IsCableLast, WhereTold};
-ghost use Rattle.scan_paths.specs.Scans.{AreInside, scan_of, HasScanned, HasScannedFront};
+ghost use Rattle.scan_paths.specs.Cables.{whole, WhereTold};
+ghost use Rattle.scan_paths.specs.CableCalls.{KeepsCable, MakesScan};
+ghost use Rattle.scan_paths.specs.Scans.{AreInside, scan_of};
 
 use crate::cable::Cable;
 use crate::moves::{move_to, send};
@@ -60,24 +60,16 @@ pub fn scan<C: Cable>(
     requires inside { plan.len ≤ length bits.now }
     requires room { plan.len ≤ length captured.old }
     requires pads { AreInside pads.now }
-    ensures state { IfOk result (λ state. state ≡ plan.stop) }
-    ensures arrived { OnOk result (WhereTold (C.board cable.new) (AllIn plan.stop)) }
-    ensures scanned { OnOk result (HasScanned C.board C.made cable.old cable.new at (scan_of plan bits.now pads.now)
-        (take plan.len captured.new)) }
+    ensures arrived { IfOk result (λ state. state ≡ plan.stop × WhereTold (C.board cable.new) (AllIn plan.stop)) }
+    ensures scanned { MakesScan C.Cable cable.old at (scan_of plan bits.now pads.now) (take plan.len captured.new)
+        cable.new result }
     ensures captured { OnOk result (WhereTold (C.board cable.old)
         (λ cs. take plan.len captured.new ≡ captured_bits at (scan_of plan bits.now pads.now) cs)) }
     ensures alone { OnOk result (WhereTold (C.board cable.old)
         (IsScanOfEachRun at (scan_of plan bits.now pads.now) (take plan.len captured.new))) }
     ensures rest { drop plan.len captured.new ≡ drop plan.len captured.old }
     ensures length { length captured.new ≡ length captured.old }
-    ensures front { OnErr result (HasScannedFront C.board C.made cable.old cable.new at
-        (scan_of plan bits.now pads.now)) }
-    ensures unbroken { OnOk result (C.breakage cable.new ≡ whole) }
-    ensures broken { OnErr result (C.breakage cable.new ≢ whole) }
-    ensures line { HasPartCause line C.line_faults C.is_line_last C.breakage cable.old cable.new }
-    ensures pins { HasPartCause pins C.pin_faults C.is_pin_last C.breakage cable.old cable.new }
-    ensures cause { HasCause (cable_faults C.line_faults C.pin_faults)
-        (IsCableLast C.is_line_last C.is_pin_last) cable.old cable.new result }
+    ensures kept { KeepsCable C.Cable cable.old cable.new result }
 {
     let (tms, count) = entry(at, plan.ir);
     send(cable, tms, count)?;

@@ -1,9 +1,10 @@
 //! The shift clocks of a scan, part by part.
-ghost use Rattle.std.specs.Prelude.{◌≡◌, ◌≢◌, ◌≤◌, ◌<◌, ◌+◌, ◌&&◌, ◌==◌, true, length, take, drop, replicate, OnOk, OnErr};
+ghost use Rattle.std.specs.Prelude.{◌≡◌, ◌≤◌, ◌<◌, ◌+◌, ◌&&◌, ◌==◌, true, length, take, drop, replicate};
 ghost use Rattle.dev_card.specs.Padding.{padded};
 ghost use Rattle.dev_card.specs.Clocks.{part_inputs};
-ghost use Rattle.scan_paths.specs.Cables.{whole, line, pins, HasPartCause, HasMade, HasMadeFront};
-ghost use Rattle.scan_paths.specs.Scans.{AreInside, planned_pre, paddings_of, HasSeen};
+ghost use Rattle.scan_paths.specs.Cables.{whole};
+ghost use Rattle.scan_paths.specs.CableCalls.{KeepsCable, MakesClocks, SeesClocks};
+ghost use Rattle.scan_paths.specs.Scans.{AreInside, planned_pre, paddings_of};
 
 use crate::cable::Cable;
 use crate::pads::Pads;
@@ -27,17 +28,12 @@ pub fn shift_padded<C: Cable>(
     requires inside { plan.len ≤ length bits.now }
     requires room { plan.len ≤ length captured.old }
     requires pads { AreInside pads.now }
-    ensures made { OnOk result (HasSeen C.board C.made cable.old cable.new
+    ensures made { SeesClocks C.Cable cable.old
         (part_inputs true (padded (paddings_of plan pads.now) (take plan.len bits.now)))
-        (planned_pre plan + pads.now.pre) (take plan.len captured.new)) }
+        (planned_pre plan + pads.now.pre) (take plan.len captured.new) cable.new result }
     ensures rest { drop plan.len captured.new ≡ drop plan.len captured.old }
     ensures length { length captured.new ≡ length captured.old }
-    ensures front { OnErr result (HasMadeFront C.board C.made cable.old cable.new
-        (part_inputs true (padded (paddings_of plan pads.now) (take plan.len bits.now)))) }
-    ensures unbroken { OnOk result (C.breakage cable.new ≡ whole) }
-    ensures broken { OnErr result (C.breakage cable.new ≢ whole) }
-    ensures line { HasPartCause line C.line_faults C.is_line_last C.breakage cable.old cable.new }
-    ensures pins { HasPartCause pins C.pin_faults C.is_pin_last C.breakage cable.old cable.new }
+    ensures kept { KeepsCable C.Cable cable.old cable.new result }
 {
     let before = plan.base.pre(plan.ir);
     let after = plan.base.post(plan.ir);
@@ -52,13 +48,8 @@ pub fn shift_padded<C: Cable>(
 // Shifts n ones, true if the scan ends with them.
 fn shift_ones<C: Cable>(cable: &mut C, n: u32, last: bool) -> Result<(), Failed>
     requires { C.breakage cable.old ≡ whole }
-    ensures made { OnOk result (HasMade C.board C.made cable.old cable.new (part_inputs last (replicate n true))) }
-    ensures front { OnErr result (HasMadeFront C.board C.made cable.old cable.new
-        (part_inputs last (replicate n true))) }
-    ensures unbroken { OnOk result (C.breakage cable.new ≡ whole) }
-    ensures broken { OnErr result (C.breakage cable.new ≢ whole) }
-    ensures line { HasPartCause line C.line_faults C.is_line_last C.breakage cable.old cable.new }
-    ensures pins { HasPartCause pins C.pin_faults C.is_pin_last C.breakage cable.old cable.new }
+    ensures made { MakesClocks C.Cable cable.old (part_inputs last (replicate n true)) cable.new result }
+    ensures kept { KeepsCable C.Cable cable.old cable.new result }
 {
     let mut at = 0;
     while at < n {
@@ -73,13 +64,8 @@ fn shift_ones<C: Cable>(cable: &mut C, n: u32, last: bool) -> Result<(), Failed>
 fn shift_padding<C: Cable>(cable: &mut C, padding: &Bits, n: u32, last: bool) -> Result<(), Failed>
     requires whole { C.breakage cable.old ≡ whole }
     requires inside { n ≤ length padding.now }
-    ensures made { OnOk result (HasMade C.board C.made cable.old cable.new (part_inputs last (take n padding.now))) }
-    ensures front { OnErr result (HasMadeFront C.board C.made cable.old cable.new
-        (part_inputs last (take n padding.now))) }
-    ensures unbroken { OnOk result (C.breakage cable.new ≡ whole) }
-    ensures broken { OnErr result (C.breakage cable.new ≢ whole) }
-    ensures line { HasPartCause line C.line_faults C.is_line_last C.breakage cable.old cable.new }
-    ensures pins { HasPartCause pins C.pin_faults C.is_pin_last C.breakage cable.old cable.new }
+    ensures made { MakesClocks C.Cable cable.old (part_inputs last (take n padding.now)) cable.new result }
+    ensures kept { KeepsCable C.Cable cable.old cable.new result }
 {
     let mut at = 0;
     while at < n {
@@ -101,16 +87,11 @@ fn shift_data<C: Cable>(
     requires whole { C.breakage cable.old ≡ whole }
     requires inside { n ≤ length bits.now }
     requires room { n ≤ length captured.old }
-    ensures made { OnOk result (HasSeen C.board C.made cable.old cable.new
-        (part_inputs last (take n bits.now)) 0 (take n captured.new)) }
+    ensures made { SeesClocks C.Cable cable.old (part_inputs last (take n bits.now)) 0 (take n captured.new) cable.new
+        result }
     ensures rest { drop n captured.new ≡ drop n captured.old }
     ensures length { length captured.new ≡ length captured.old }
-    ensures front { OnErr result (HasMadeFront C.board C.made cable.old cable.new
-        (part_inputs last (take n bits.now))) }
-    ensures unbroken { OnOk result (C.breakage cable.new ≡ whole) }
-    ensures broken { OnErr result (C.breakage cable.new ≢ whole) }
-    ensures line { HasPartCause line C.line_faults C.is_line_last C.breakage cable.old cable.new }
-    ensures pins { HasPartCause pins C.pin_faults C.is_pin_last C.breakage cable.old cable.new }
+    ensures kept { KeepsCable C.Cable cable.old cable.new result }
 {
     let mut at = 0;
     while at < n {

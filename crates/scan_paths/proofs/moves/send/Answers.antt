@@ -1,7 +1,6 @@
 use Rattle.std.proofs.Common.{arith}
-use Rattle.tool_io.proofs.BytesLemmas.{on_err}
 use Rattle.scan_paths.proofs.Way.{way_none, way_more, way_end, way_failed}
-use Rattle.scan_paths.proofs.Parts.{line_start, pins_start, part_then}
+use Rattle.scan_paths.proofs.Parts.{cable_start, cable_then, cable_done, cable_failed, made_failed}
 use Rattle.scan_paths.proofs.Arriving.{all_bits, next_bit, no_bits}
 use Rattle.scan_paths.proofs.moves.send.Goals as goal
 
@@ -9,32 +8,27 @@ pub loop-turn-init : goal.loop-turn-init
 loop-turn-init g c =
     let m = g.C.Cable in
     record {
-      whole = c.requires;
-      line = line_start _ _ _ c.requires;
-      pins = pins_start _ _ _ c.requires;
+      kept = cable_start tt _ _ _ _ _ c.requires;
       way = way_none m.board m.made g.met.C.Cable.both_made c.args.cable.now _ _ (all_bits c.args.n c.args.bits) (g.met.C.Cable.none_made c.args.cable.now);
     }
 
-pub returns-in_err-clock-clause-front : goal.returns-in_err-clock-clause-front
-returns-in_err-clock-clause-front g c =
+pub returns-in_err-clock-clause-made : goal.returns-in_err-clock-clause-made
+returns-in_err-clock-clause-made g c =
     let m = g.C.Cable in
     let w = rw (next_bit c.args.n c.loop-turn._turn c.loop-turn.rest (omega arith)) at c.loop-turn.invariant.way in
-    on_err _ (way_failed m.board m.made g.met.C.Cable.both_made c.args.cable.now c.loop-turn.cable c.clock.new.self _ _ _ c.in_err-clock.ensures.failed w)
+    made_failed g.C.Cable c.from_residual.result c.from_residual.ensures.0
+    (way_failed m.board m.made g.met.C.Cable.both_made c.args.cable.now c.loop-turn.cable c.clock.new.self _ _ _ c.in_err-clock.ensures.clocked w)
 
-pub returns-in_err-clock-clause-line : goal.returns-in_err-clock-clause-line
-returns-in_err-clock-clause-line g c = part_then c.loop-turn.invariant.line c.clock.ensures.line
-
-pub returns-in_err-clock-clause-pins : goal.returns-in_err-clock-clause-pins
-returns-in_err-clock-clause-pins g c = part_then c.loop-turn.invariant.pins c.clock.ensures.pins
+pub returns-in_err-clock-clause-kept : goal.returns-in_err-clock-clause-kept
+returns-in_err-clock-clause-kept g c =
+    cable_failed c.from_residual.result c.from_residual.ensures.0 (cable_then c.loop-turn.invariant.kept c.in_err-clock.ensures.kept)
 
 pub loop-turn-preserved : goal.loop-turn-preserved
 loop-turn-preserved g c =
     let m = g.C.Cable in
     let w = rw (next_bit c.args.n c.loop-turn._turn c.loop-turn.rest (omega arith)) at c.loop-turn.invariant.way in
     record {
-      whole = c.in_ok-clock.ensures.unbroken;
-      line = part_then c.loop-turn.invariant.line c.clock.ensures.line;
-      pins = part_then c.loop-turn.invariant.pins c.clock.ensures.pins;
+      kept = cable_then c.loop-turn.invariant.kept (cable_done c.in_ok-clock.ensures.kept);
       way = way_more m.board m.made g.met.C.Cable.both_made c.args.cable.now c.loop-turn.cable c.clock.new.self _ _ _ _ c.in_ok-clock.ensures.clocked w;
     }
 

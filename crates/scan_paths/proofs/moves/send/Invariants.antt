@@ -1,7 +1,7 @@
-use Rattle.std.proofs.Common.{◌≡◌, ◌-◌}
+use Rattle.std.proofs.Common.{◌-◌}
 use Rattle.base.specs.Bits.{low_bits}
 use Rattle.dev_card.specs.Clocks.{with_zero}
-use Rattle.scan_paths.specs.Cables.{whole, line, pins, HasPartCause}
+use Rattle.scan_paths.proofs.Parts.{KeepsWhole}
 use Rattle.scan_paths.proofs.Way.{IsUnderWay}
 use Rattle.scan_paths.proofs.moves.send.Given as goal
 
@@ -9,8 +9,6 @@ abbrev pub invariant-loop-turn : goal.invariant-loop-turn
 invariant-loop-turn g l =
     let c = g.C.Cable in
     record {
-      whole : c.breakage l.cable ≡ whole;
-      line : HasPartCause line c.line_faults c.is_line_last c.breakage l.fn.cable l.cable;
-      pins : HasPartCause pins c.pin_faults c.is_pin_last c.breakage l.fn.cable l.cable;
+      kept : KeepsWhole c l.fn.cable l.cable;
       way : IsUnderWay c.board c.made l.fn.cable l.cable (with_zero (low_bits (l.n - l._turn) l.rest)) (with_zero (low_bits l.n l.bits));
     }

@@ -1,5 +1,5 @@
-use Rattle.std.proofs.Common.{◌≡◌, ◌-◌, true, replicate, ◌≤◌}
-use Rattle.scan_paths.specs.Cables.{whole, line, pins, HasPartCause}
+use Rattle.std.proofs.Common.{◌-◌, true, replicate, ◌≤◌}
+use Rattle.scan_paths.proofs.Parts.{KeepsWhole}
 use Rattle.dev_card.specs.Clocks.{part_inputs}
 use Rattle.scan_paths.proofs.Way.{IsUnderWay}
 use Rattle.scan_paths.proofs.shifts.shift_ones.Given as goal
@@ -8,9 +8,7 @@ abbrev pub invariant-loop-at : goal.invariant-loop-at
 invariant-loop-at g l =
     let c = g.C.Cable in
     record {
-      whole : c.breakage l.cable ≡ whole;
-      line : HasPartCause line c.line_faults c.is_line_last c.breakage l.fn.cable l.cable;
-      pins : HasPartCause pins c.pin_faults c.is_pin_last c.breakage l.fn.cable l.cable;
+      kept : KeepsWhole c l.fn.cable l.cable;
       inside : l.at ≤ l.n;
       way : IsUnderWay c.board c.made l.fn.cable l.cable (part_inputs l.last (replicate (l.n - l.at) true)) (part_inputs l.last (replicate l.n true));
     }
