@@ -29,17 +29,20 @@ abbrev pub level_of : Bool → ℕ
 level_of true = 49
 level_of false = 48
 
--- The line of a wire with this identifier, and of the state, where it changes.
+-- The line of a wire with this identifier, where it changes.
 abbrev pub wire_change : ℕ → ℕ → ℕ → List ℕ
 wire_change id old new = if old == new then [] else new ∷ id ∷ 10 ∷ []
 
-abbrev pub state_line : ℕ → List ℕ
-state_line n =
-    if n == 16 then codes "bxxxx %\n"
-    else 98 ∷ (48 + n / 8 % 2) ∷ (48 + n / 4 % 2) ∷ (48 + n / 2 % 2) ∷ (48 + n % 2) ∷ 32 ∷ 37 ∷ 10 ∷ []
+-- The state is shown by four wires, one for each bit of its number. This is the level of the one for the bit that counts
+-- this many; it is unknown (x, 120) if the state is.
+abbrev pub state_level : ℕ → ℕ → ℕ
+state_level place n = if n == 16 then 120 else 48 + n / place % 2
+
+abbrev pub state_wire : ℕ → ℕ → ℕ → ℕ → List ℕ
+state_wire id place old new = wire_change id (state_level place old) (state_level place new)
 
 abbrev pub state_change : ℕ → ℕ → List ℕ
-state_change old new = if old == new then [] else state_line new
+state_change old new = state_wire 37 8 old new ++ state_wire 38 4 old new ++ state_wire 39 2 old new ++ state_wire 40 1 old new
 
 -- the lines of all that changes
 abbrev pub changes : Levels → Levels → List ℕ
@@ -110,12 +113,13 @@ first_wave =
 abbrev pub end_text : Wave → List ℕ
 end_text w = time_line w.time ++ changes w.levels (rest_levels w.levels)
 
--- the declarations of a dump, and the levels before the first item
+-- the declarations of a dump, and the levels at time 0, before the first item
 abbrev pub head_text : List ℕ
 head_text =
     codes "$timescale 1 us $end\n$scope module jtag $end\n$var wire 1 ! TCK $end\n$var wire 1 \" TMS $end\n"
-    ++ codes "$var wire 1 # TDI $end\n$var wire 1 $ TDO $end\n$var wire 4 % TAP $end\n$upscope $end\n"
-    ++ codes "$enddefinitions $end\n$dumpvars\n0!\nx\"\nx#\nx$\nbxxxx %\n$end\n"
+    ++ codes "$var wire 1 # TDI $end\n$var wire 1 $ TDO $end\n$var wire 1 % TAP3 $end\n$var wire 1 & TAP2 $end\n"
+    ++ codes "$var wire 1 ' TAP1 $end\n$var wire 1 ( TAP0 $end\n$upscope $end\n$enddefinitions $end\n#0\n"
+    ++ codes "$dumpvars\n0!\nx\"\nx#\nx$\nx%\nx&\nx'\nx(\n$end\n"
 
 -- the dump of some clocks and waits
 abbrev pub wave_text : List Item → List ℕ

@@ -5,7 +5,7 @@ ghost use Rattle.tool_io.specs.Lines.{IsWhole, HasPut};
 ghost use Rattle.pin_lines.specs.PinLines.{is_bad_line, has_bad_line};
 ghost use Rattle.wave_tool.specs.Items.{Clocked, Waited, most_usec, line_items, items_in};
 ghost use Rattle.wave_tool.specs.Found.{waits_found};
-ghost use Rattle.wave_tool.specs.Waves.{control_after, shown_number, level_of, wire_change, state_line, state_change, changes, are_same, time_line, moment, low_levels, high_levels, control_of, rest_levels, item_text, after_item, items_text, after_items, first_wave, end_text, head_text, wave_text};
+ghost use Rattle.wave_tool.specs.Waves.{control_after, shown_number, level_of, wire_change, state_level, state_wire, state_change, changes, are_same, time_line, moment, low_levels, high_levels, control_of, rest_levels, item_text, after_item, items_text, after_items, first_wave, end_text, head_text, wave_text};
 
 use crate::items::wait_of;
 use pin_lines::{tdi_of, tdo_of, tms_of};
@@ -40,22 +40,29 @@ pub(crate) struct Wave {
     control: Control,
 }
 
-// The declarations of a dump, and the levels before the first item.
+// The declarations of a dump, and the levels at time 0, before the first item.
 const HEAD: &[u8] = b"$timescale 1 us $end
 $scope module jtag $end
 $var wire 1 ! TCK $end
 $var wire 1 \" TMS $end
 $var wire 1 # TDI $end
 $var wire 1 $ TDO $end
-$var wire 4 % TAP $end
+$var wire 1 % TAP3 $end
+$var wire 1 & TAP2 $end
+$var wire 1 ' TAP1 $end
+$var wire 1 ( TAP0 $end
 $upscope $end
 $enddefinitions $end
+#0
 $dumpvars
 0!
 x\"
 x#
 x$
-bxxxx %
+x%
+x&
+x'
+x(
 $end
 ";
 
@@ -101,35 +108,39 @@ fn put_wire<K: Sink>(lines: &mut Lines<K>, id: u8, old: u8, new: u8) -> Result<(
     lines.put(&[new, id, b'\n'])
 }
 
-// Puts the line of a state.
-fn put_state_line<K: Sink>(lines: &mut Lines<K>, n: u8) -> Result<(), Failed>
-    requires { IsWhole lines.old }
-    ensures { HasPut K.Sink lines.old (state_line n) lines.new result }
+// The level of the wire for the bit of a state that counts this many.
+fn state_level(place: u8, n: u8) -> u8
+    requires { 0 < place }
+    ensures { result ≡ state_level place n }
 {
-    if n == 16 {
-        return lines.put(b"bxxxx %\n");
-    }
-    lines.put(&[
-        b'b',
-        48 + n / 8 % 2,
-        48 + n / 4 % 2,
-        48 + n / 2 % 2,
-        48 + n % 2,
-        b' ',
-        b'%',
-        b'\n',
-    ])
+    if n == 16 { b'x' } else { 48 + n / place % 2 }
 }
 
-// Puts the line of the state, if it changes.
+// Puts the line of the wire for a bit of the state, if it changes.
+fn put_state_wire<K: Sink>(
+    lines: &mut Lines<K>,
+    id: u8,
+    place: u8,
+    old: u8,
+    new: u8,
+) -> Result<(), Failed>
+    requires whole { IsWhole lines.old }
+    requires some { 0 < place }
+    ensures { HasPut K.Sink lines.old (state_wire id place old new) lines.new result }
+{
+    put_wire(lines, id, state_level(place, old), state_level(place, new))
+}
+
+// Puts the lines of the wires of the state that change.
 fn put_state<K: Sink>(lines: &mut Lines<K>, old: u8, new: u8) -> Result<(), Failed>
     requires { IsWhole lines.old }
     ensures { HasPut K.Sink lines.old (state_change old new) lines.new result }
 {
-    if old == new {
-        return Ok(());
-    }
-    put_state_line(lines, new)
+    put_state_wire(lines, b'%', 8, old, new)?;
+    put_state_wire(lines, b'&', 4, old, new)?;
+    put_state_wire(lines, b'\'', 2, old, new)?;
+    put_state_wire(lines, b'(', 1, old, new)?;
+    Ok(())
 }
 
 // Puts the lines of all that changes.
