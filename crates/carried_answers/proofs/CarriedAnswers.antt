@@ -23,7 +23,7 @@ use Rattle.stapl_meaning.specs.Scopes.{as_played}
 use Rattle.stapl_meaning.specs.Texts.{asked_report, text_of}
 use Rattle.command_words.specs.declared.place_run.PlaceRun.{PlaceRun}
 use Rattle.named_files.specs.Boards.{HasBoard}
-use Rattle.play_status.specs.declared.status.Status.{Status}
+use Rattle.play_words.specs.declared.status.Status.{Status}
 use Rattle.tool_frame.specs.Files.{first_of, second_of}
 use Rattle.play_words.specs.declared.requests.PlayRequest.{PlayRequest}
 use Rattle.code_plays.specs.Plays.{done_with, has_place, neighbours, reported_far, asked_text, base_at, Plays, no_action, bad_choice, bad_place, played}

@@ -1,6 +1,6 @@
 //! Laws of what the player answers.
 ghost use Rattle.std.specs.Prelude.{◌↔◌, ℕ, List, Option};
-ghost use Rattle.play_status.specs.declared.status.Status.{Status};
+ghost use Rattle.play_words.specs.declared.status.Status.{Status};
 ghost use Rattle.play_tool.specs.Answers.{RequestAnswer};
 ghost use Rattle.play_words.specs.declared.requests.FilePlay.{FilePlay};
 ghost use Rattle.play_words.specs.declared.requests.Request.TheVariants.{Play};

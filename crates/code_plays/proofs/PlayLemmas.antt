@@ -37,8 +37,8 @@ use Rattle.chain_sim.proofs.Fitting.{fresh_described}
 use Rattle.written_cable.specs.declared.trouble.Trouble.{Trouble}
 use Rattle.written_cable.specs.declared.trouble.Trouble.TheVariants.{CableFault, WriteFault}
 use Rattle.written_cable.specs.Ports.{IfFault}
-use Rattle.play_status.specs.declared.status.Status.{Status}
-use Rattle.play_status.specs.Statuses.{IsPlayed, ComesBeforeFitting}
+use Rattle.play_words.specs.declared.status.Status.{Status}
+use Rattle.play_words.specs.Statuses.{IsPlayed, ComesBeforeFitting}
 use Rattle.command_words.specs.declared.place_run.PlaceRun.{PlaceRun}
 use Rattle.play_words.specs.declared.requests.PlayRequest.{PlayRequest}
 use Rattle.code_plays.specs.Plays.{done_with, has_place, reported_far, asked_text, Plays, played}

@@ -16,7 +16,7 @@ use Rattle.stapl_code.specs.declared.raw.CodeLists.{CodeLists}
 use Rattle.stapl_player.specs.Plays.{whole_play}
 use Rattle.code_plays.specs.declared.playing.Task.{Task}
 use Rattle.play_words.specs.declared.requests.PlayRequest.{PlayRequest}
-use Rattle.play_status.specs.declared.status.Status.{Status}
+use Rattle.play_words.specs.declared.status.Status.{Status}
 use Rattle.code_plays.specs.Plays.{asked_text, base_at, reported_far, done_with}
 
 -- the base padding that a task asks for

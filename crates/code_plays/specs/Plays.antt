@@ -17,8 +17,8 @@ use Rattle.dev_card.specs.FarEnds.{FarEnd, Told, Heard}
 use Rattle.dev_card.specs.Padding.{BaseLengths, Neighbours, in_run, base_lengths}
 use Rattle.command_words.specs.declared.place_run.PlaceRun.{PlaceRun}
 use Rattle.play_words.specs.declared.requests.PlayRequest.{PlayRequest}
-use Rattle.play_status.specs.declared.status.Status.{Status}
-use Rattle.play_status.specs.declared.status.Status.TheVariants.{Done, Fault, Spent, NoAction, BadChoice, BadPlace}
+use Rattle.play_words.specs.declared.status.Status.{Status}
+use Rattle.play_words.specs.declared.status.Status.TheVariants.{Done, Fault, Spent, NoAction, BadChoice, BadPlace}
 
 -- the status of a play that ends so
 abbrev pub done_with : Ending → Status

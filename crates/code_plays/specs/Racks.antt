@@ -12,8 +12,8 @@ use Rattle.chain_sim.specs.Places.{cards_at}
 use Rattle.chain_sim.specs.Rack.{places_of}
 use Rattle.tool_frame.specs.declared.no_answer.NoAnswer.{NoAnswer}
 use Rattle.play_words.specs.declared.requests.PlayRequest.{PlayRequest}
-use Rattle.play_status.specs.declared.status.Status.{Status}
-use Rattle.play_status.specs.Statuses.{IsPlayed, ComesBeforeFitting}
+use Rattle.play_words.specs.declared.status.Status.{Status}
+use Rattle.play_words.specs.Statuses.{IsPlayed, ComesBeforeFitting}
 use Rattle.code_plays.specs.Plays.{code_play_on}
 
 -- what stands at the far end of a cable to these places of a rack

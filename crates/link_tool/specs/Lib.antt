@@ -4,3 +4,4 @@ pub mod Pieces
 pub mod Answers
 pub mod FinalRacks
 pub mod Written
+pub mod Commands

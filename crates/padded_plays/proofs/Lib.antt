@@ -8,3 +8,6 @@ pub mod SameTurns
 pub mod SameTexts
 pub mod InstructionLoaded
 pub mod QuietExamples
+pub mod Reasoned
+pub mod Firsts
+pub mod DeedsAdded

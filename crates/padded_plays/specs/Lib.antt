@@ -4,3 +4,5 @@ pub mod QuietPlays
 pub mod SamePlays
 pub mod LoadedDeeds
 pub mod QuietExamples
+pub mod Reasons
+pub mod FirstDeeds

@@ -23,7 +23,7 @@ use Rattle.board_text.proofs.BoardLemmas.{good_at_end}
 use Rattle.padded_plays.specs.QuietPlays.{IsQuietPlay}
 use Rattle.padded_plays.specs.SamePlays.{cards_from, IsSameText}
 use Rattle.padded_plays.proofs.SameTexts.{text_of_run}
-use Rattle.play_status.specs.declared.status.Status.{Status}
+use Rattle.play_words.specs.declared.status.Status.{Status}
 use Rattle.play_words.specs.declared.requests.PlayRequest.{PlayRequest}
 use Rattle.play_words.specs.declared.requests.Request.{Request}
 use Rattle.play_words.specs.declared.requests.Request.TheVariants.{Play}

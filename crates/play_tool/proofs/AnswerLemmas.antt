@@ -9,7 +9,7 @@ use Rattle.named_files.proofs.BoardLemmas.{one_held, board_or_fault}
 use Rattle.play_words.specs.declared.requests.Request.{Request}
 use Rattle.play_words.specs.Words.{IsRequest}
 use Rattle.play_words.proofs.OneRequest.{one_request, no_usage}
-use Rattle.play_status.specs.declared.status.Status.{Status}
+use Rattle.play_words.specs.declared.status.Status.{Status}
 use Rattle.tool_frame.proofs.AnswerLemmas.{IsWithin}
 use Rattle.play_tool.specs.Answers.{TextAnswer, refused, accepted, HeldAnswer, BoardAnswer, board_refused, board_read, RequestAnswer, WordsAnswer, usage, asked}
 

@@ -35,8 +35,8 @@ use Rattle.named_files.specs.Texts.{refusal_line, board_refusal_line}
 use Rattle.play_words.specs.declared.requests.PlayRequest.{PlayRequest}
 use Rattle.play_words.specs.declared.requests.Request.{Request}
 use Rattle.play_words.specs.declared.requests.Request.TheVariants as requests
-use Rattle.play_status.specs.declared.status.Status.{Status}
-use Rattle.play_status.specs.declared.status.Status.TheVariants as statuses
+use Rattle.play_words.specs.declared.status.Status.{Status}
+use Rattle.play_words.specs.declared.status.Status.TheVariants as statuses
 use Rattle.code_plays.specs.Plays.{done_with, has_place, asked_text, Plays, played, bad_place, code_play_on, PlaysCode, base_at}
 use Rattle.code_plays.specs.Plays as answers
 use Rattle.code_plays.specs.CodePlays.{HasEnding}

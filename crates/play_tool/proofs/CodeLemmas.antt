@@ -21,8 +21,8 @@ use Rattle.tool_frame.specs.Files.{OfFile}
 use Rattle.tool_frame.proofs.AnswerLemmas.{IsWithin, says_failed, said_text, said_front}
 use Rattle.named_files.proofs.BoardLemmas.{of_file_as, of_long_file}
 use Rattle.play_words.specs.declared.requests.PlayRequest.{PlayRequest}
-use Rattle.play_status.specs.declared.status.Status.{Status}
-use Rattle.play_status.specs.declared.status.Status.TheVariants.{CodeRefused}
+use Rattle.play_words.specs.declared.status.Status.{Status}
+use Rattle.play_words.specs.declared.status.Status.TheVariants.{CodeRefused}
 use Rattle.code_plays.specs.Plays.{PlaysCode}
 use Rattle.code_plays.specs.Racks.{CodeHoldsFinal}
 use Rattle.play_tool.specs.Texts.{code_refusal_line}

@@ -9,8 +9,8 @@ use Rattle.tool_frame.specs.declared.no_answer.NoAnswer.TheVariants.{Read, Write
 use Rattle.tool_frame.specs.Answers.{Says}
 use Rattle.tool_frame.specs.Frame.{SaysAndLeaves}
 use Rattle.tool_frame.proofs.AnswerLemmas.{IsWithin, says_within}
-use Rattle.play_status.specs.declared.status.Status.{Status}
-use Rattle.play_status.specs.Statuses.{IsPlayed}
+use Rattle.play_words.specs.declared.status.Status.{Status}
+use Rattle.play_words.specs.Statuses.{IsPlayed}
 use Rattle.code_plays.specs.Racks.{KeepsRack}
 use Rattle.code_plays.proofs.PlayLemmas.{rack_as, rack_failed, rack_refused, rack_unread}
 use Rattle.play_tool.specs.FinalRacks.{LeavesRack}

@@ -12,8 +12,8 @@ use Rattle.board_text.specs.declared.reason.BoardReason.{BoardReason}
 use Rattle.play_words.specs.declared.requests.PlayRequest.{PlayRequest}
 use Rattle.play_words.specs.declared.requests.Request.{Request}
 use Rattle.play_words.specs.declared.requests.Request.TheVariants as requests
-use Rattle.play_status.specs.declared.status.Status.{Status}
-use Rattle.play_status.specs.declared.status.Status.TheVariants.{Done, Refused, BoardRefused, CodeRefused, Usage}
+use Rattle.play_words.specs.declared.status.Status.{Status}
+use Rattle.play_words.specs.declared.status.Status.TheVariants.{Done, Refused, BoardRefused, CodeRefused, Usage}
 use Rattle.soak_texts.specs.Boards.{soak_board}
 use Rattle.soak_texts.specs.Soak.{soak_program}
 use Rattle.program_reports.specs.Checks.{IsCheckText}

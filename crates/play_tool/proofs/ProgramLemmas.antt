@@ -29,8 +29,8 @@ use Rattle.stapl_player.specs.Choices.{code_choice}
 use Rattle.dev_card.specs.declared.desc.Desc.{Desc}
 use Rattle.dev_card.specs.Sound.{SoundCard}
 use Rattle.chain_sim.specs.Rack.{places_of}
-use Rattle.play_status.specs.declared.status.Status.{Status}
-use Rattle.play_status.specs.declared.status.Status.TheVariants.{Done}
+use Rattle.play_words.specs.declared.status.Status.{Status}
+use Rattle.play_words.specs.declared.status.Status.TheVariants.{Done}
 use Rattle.play_words.specs.declared.requests.PlayRequest.{PlayRequest}
 use Rattle.play_tool.specs.Answers.{play_on, PlaysAction, Compiles}
 use Rattle.code_plays.specs.CodePlays.{IsPlayOf}

@@ -13,7 +13,7 @@ use Rattle.play_words.specs.declared.requests.Request.{Request}
 use Rattle.play_words.specs.Words.{files_of, IsRequest, IsUsage}
 use Rattle.play_words.proofs.OneRequest.{one_request, no_usage}
 use Rattle.play_words.proofs.EveryWords.{request_or_usage}
-use Rattle.play_status.specs.declared.status.Status.{Status}
+use Rattle.play_words.specs.declared.status.Status.{Status}
 use Rattle.play_tool.specs.Answers.{RequestAnswer, WordsAnswer, usage, asked, contents_in}
 use Rattle.play_tool.specs.FinalRacks.{RequestHoldsFinal, WordsHoldFinal}
 use Rattle.play_tool.specs.ReadContents.{ArePlayFiles, AreFilesOf, NamesFiles, OfWords, HoldsBoard, IsPlayFile, source_reached, IsReached, IsReachedBy}

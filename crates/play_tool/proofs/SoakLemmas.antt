@@ -14,7 +14,7 @@ use Rattle.soak_texts.specs.Soak.{soak_program}
 use Rattle.tool_frame.specs.declared.no_answer.NoAnswer.{NoAnswer}
 use Rattle.tool_frame.specs.declared.no_answer.NoAnswer.TheVariants.{Read, Write, Memory}
 use Rattle.tool_frame.specs.Answers.{Says}
-use Rattle.play_status.specs.declared.status.Status.{Status}
+use Rattle.play_words.specs.declared.status.Status.{Status}
 use Rattle.play_tool.specs.Texts.{soak_line}
 use Rattle.play_tool.specs.Answers.{soak_head, SoakPlayAnswer, SoakAnswer}
 

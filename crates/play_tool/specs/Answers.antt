@@ -27,8 +27,8 @@ use Rattle.play_words.specs.declared.requests.PlayRequest.{PlayRequest}
 use Rattle.play_words.specs.declared.requests.Request.{Request}
 use Rattle.play_words.specs.declared.requests.Request.TheVariants as requests
 use Rattle.play_words.specs.Words.{usual_turns, files_of, IsRequest, IsUsage}
-use Rattle.play_status.specs.declared.status.Status.{Status}
-use Rattle.play_status.specs.declared.status.Status.TheVariants.{Done, Refused, BoardRefused, CodeRefused, Usage}
+use Rattle.play_words.specs.declared.status.Status.{Status}
+use Rattle.play_words.specs.declared.status.Status.TheVariants.{Done, Refused, BoardRefused, CodeRefused, Usage}
 use Rattle.code_plays.specs.Plays.{has_place, base_at, Plays, PlaysCode}
 use Rattle.play_tool.specs.declared.sources.Source.{Source}
 use Rattle.play_tool.specs.declared.sources.Source.TheVariants.{Program, Code}

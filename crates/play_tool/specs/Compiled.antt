@@ -3,8 +3,8 @@ use Rattle.std.specs.Prelude.{◌≡◌, ℕ, pos, List, Option, Some}
 use Rattle.stapl_syntax.specs.Trees.{StmtTree}
 use Rattle.stapl_syntax.specs.Programs.{IsProgram}
 use Rattle.dev_card.specs.declared.desc.Desc.{Desc}
-use Rattle.play_status.specs.declared.status.Status.{Status}
-use Rattle.play_status.specs.declared.status.Status.TheVariants.{Done}
+use Rattle.play_words.specs.declared.status.Status.{Status}
+use Rattle.play_words.specs.declared.status.Status.TheVariants.{Done}
 use Rattle.play_words.specs.declared.requests.FilePlay.{FilePlay}
 use Rattle.play_words.specs.declared.requests.Request.{Request}
 use Rattle.play_words.specs.declared.requests.Request.TheVariants.{Run}

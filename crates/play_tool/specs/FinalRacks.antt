@@ -19,7 +19,7 @@ use Rattle.play_words.specs.declared.requests.PlayRequest.{PlayRequest}
 use Rattle.play_words.specs.declared.requests.Request.{Request}
 use Rattle.play_words.specs.declared.requests.Request.TheVariants as requests
 use Rattle.play_words.specs.Words.{plays, IsRequest}
-use Rattle.play_status.specs.declared.status.Status.{Status}
+use Rattle.play_words.specs.declared.status.Status.{Status}
 use Rattle.code_plays.specs.Racks.{AreLeft, CodeHoldsFinal, KeepsRack}
 use Rattle.play_tool.specs.declared.sources.Source.{Source}
 use Rattle.play_tool.specs.declared.sources.Source.TheVariants.{Program, Code}

@@ -13,10 +13,10 @@ use Rattle.tool_frame.specs.Frame.{IsNoFaultCode}
 use Rattle.play_words.specs.declared.requests.PlayRequest.{PlayRequest}
 use Rattle.play_words.specs.declared.requests.Request.{Request}
 use Rattle.play_words.specs.declared.requests.Request.TheVariants as requests
-use Rattle.play_status.specs.declared.status.Status.{Status}
-use Rattle.play_status.specs.Codes.{exit_code_of}
-use Rattle.play_status.specs.Statuses.{IsFault}
-use Rattle.play_status.specs.NoFaults.{no_fault_code}
+use Rattle.play_words.specs.declared.status.Status.{Status}
+use Rattle.play_words.specs.Codes.{exit_code_of}
+use Rattle.play_words.specs.Statuses.{IsFault}
+use Rattle.play_words.specs.NoFaults.{no_fault_code}
 use Rattle.code_plays.specs.Plays.{done_with, Plays, no_action, bad_choice, bad_place, played}
 use Rattle.play_tool.specs.declared.sources.Source.{Source}
 use Rattle.play_tool.specs.declared.sources.Source.TheVariants.{Program, Code}

@@ -10,8 +10,8 @@ use Rattle.play_words.specs.declared.requests.FilePlay.{FilePlay}
 use Rattle.play_words.specs.declared.requests.Request.{Request}
 use Rattle.play_words.specs.declared.requests.Request.TheVariants as requests
 use Rattle.play_words.specs.Words.{play_files, files_of, IsRequest}
-use Rattle.play_status.specs.declared.status.Status.{Status}
-use Rattle.play_status.specs.Statuses.{IsPlayed}
+use Rattle.play_words.specs.declared.status.Status.{Status}
+use Rattle.play_words.specs.Statuses.{IsPlayed}
 use Rattle.play_tool.specs.FinalRacks.{WordsHoldFinal, AskForPlay}
 use Rattle.play_tool.specs.Alone.{IsQuietAlone, PlaysAlone}
 use Rattle.play_tool.specs.Compiled.{RunsCompiled, PlaysProgram}

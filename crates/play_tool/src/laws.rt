@@ -1,8 +1,8 @@
 //! Laws of the definitions.
 ghost use Rattle.std.specs.Prelude.{◌≡◌, ℕ, List, Option, Some};
 ghost use Rattle.play_words.specs.declared.requests.Request.{Request};
-ghost use Rattle.play_status.specs.declared.status.Status.{Status};
-ghost use Rattle.play_status.specs.Statuses.{IsFault};
+ghost use Rattle.play_words.specs.declared.status.Status.{Status};
+ghost use Rattle.play_words.specs.Statuses.{IsFault};
 ghost use Rattle.play_tool.specs.Answers.{Answer, RequestAnswer, WordsAnswer};
 ghost use Rattle.play_tool.specs.Alone.{IsQuietAlone, PlaysAlone};
 ghost use Rattle.play_tool.specs.Compiled.{RunsCompiled, PlaysProgram};

@@ -15,7 +15,7 @@ ghost use Rattle.play_tool.specs.FinalRacks.{HoldsFinal};
 use code_files::encode_code;
 use code_plays::{Task, play_code};
 use dev_card::Device;
-use play_status::Status;
+use play_words::Status;
 use program_reports::{check_words, put_check, put_list};
 use stapl_codegen::generate;
 use stapl_meaning::laws::programs_are_typed;

@@ -16,7 +16,7 @@ use crate::programs::{Work, play_program, work_on};
 use code_plays::{Task, play_code};
 use dev_card::Device;
 use named_files::put_refusal;
-use play_status::Status;
+use play_words::Status;
 use program_files::{ProgramNotRead, program_named};
 use std::alloc::Global;
 use tool_frame::NoAnswer;

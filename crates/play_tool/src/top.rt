@@ -4,14 +4,14 @@ ghost use Rattle.tool_io.specs.Causes.{HasRisen, NeverFalls, NoneFalls};
 ghost use Rattle.tool_frame.specs.Answers.{WroteFront};
 ghost use Rattle.chain_sim.specs.Rack.{IsRack};
 ghost use Rattle.tool_frame.specs.Files.{HasReadCause};
-ghost use Rattle.play_status.specs.Statuses.{IsFault, ComesBeforeFitting};
+ghost use Rattle.play_words.specs.Statuses.{IsFault, ComesBeforeFitting};
 ghost use Rattle.play_tool.specs.Answers.{WordsAnswer};
 ghost use Rattle.play_tool.specs.FinalRacks.{AskForPlay};
 ghost use Rattle.play_tool.specs.ReadContents.{OfWords, IsReachedBy, Answered};
 
 use crate::Player;
 use dev_card::Device;
-use play_status::Status;
+use play_words::Status;
 use stapl_meaning::laws::programs_are_typed;
 use std::alloc::Global;
 use tool_frame::{NoAnswer, run};

@@ -24,9 +24,9 @@ use Rattle.written_cable.specs.Signals.{signals_of}
 use Rattle.quiet_runs.proofs.FirstZeros.{same_zeros}
 use Rattle.padded_plays.specs.QuietPlays.{deeds_of_play, IsQuietPlay}
 use Rattle.padded_plays.proofs.QuietTurns.{events_of_play}
-use Rattle.quiet_deeds.specs.declared.unquiet.Unquiet.{Unquiet}
-use Rattle.quiet_deeds.specs.FirstDeeds.{at_the_beginning, in_a_turn}
-use Rattle.quiet_deeds.proofs.Firsts.{GoesOn, goes_on_if}
+use Rattle.padded_plays.specs.declared.unquiet.Unquiet.{Unquiet}
+use Rattle.padded_plays.specs.FirstDeeds.{at_the_beginning, in_a_turn}
+use Rattle.padded_plays.proofs.Firsts.{GoesOn, goes_on_if}
 use Rattle.quiet_watch.specs.Watches.{marks, Watched, Follows, seen_by}
 use Rattle.quiet_watch.specs.HeardPlays.{marked_chain, new_watch, HasSeenPlay}
 use Rattle.quiet_watch.specs.declared.watch.Watch.{Watch}

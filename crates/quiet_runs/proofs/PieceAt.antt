@@ -19,8 +19,8 @@ use Rattle.stapl_codegen.proofs.Pieces.{start_none, start_head, code_from}
 use Rattle.stapl_machine.specs.Machines.{play_of}
 use Rattle.stapl_machine.specs.Turns.{piece_of}
 use Rattle.padded_plays.specs.QuietPlays.{first_chain, play_alone}
-use Rattle.quiet_deeds.specs.declared.unquiet.Unquiet.{Unquiet}
-use Rattle.quiet_deeds.specs.FirstDeeds.{IsFirstUnquiet, at_the_beginning, in_a_turn}
+use Rattle.padded_plays.specs.declared.unquiet.Unquiet.{Unquiet}
+use Rattle.padded_plays.specs.FirstDeeds.{IsFirstUnquiet, at_the_beginning, in_a_turn}
 use Rattle.quiet_runs.specs.Verdicts.{GoesOnAlone, GoesOnAtPiece, IsUnquietAt, IsUnquietIn}
 use Rattle.quiet_runs.proofs.FirstZeros.{same_zeros}
 

@@ -10,8 +10,8 @@ use Rattle.stapl_code.specs.declared.raw.CodeLists.{CodeLists}
 use Rattle.stapl_codegen.specs.Generated.{IsCodeOf}
 use Rattle.padded_plays.specs.QuietPlays.{no_base, IsQuietPlay, play_alone}
 use Rattle.stapl_machine.specs.Machines.{play_of}
-use Rattle.quiet_deeds.specs.declared.unquiet.Unquiet.{Unquiet}
-use Rattle.quiet_deeds.specs.FirstDeeds.{HasUnquietDeed, IsFirstUnquiet}
+use Rattle.padded_plays.specs.declared.unquiet.Unquiet.{Unquiet}
+use Rattle.padded_plays.specs.FirstDeeds.{HasUnquietDeed, IsFirstUnquiet}
 use Rattle.quiet_runs.specs.declared.judging.Judged.{Judged}
 use Rattle.quiet_runs.specs.declared.first_turns.Verdict.{Verdict}
 use Rattle.quiet_runs.specs.declared.first_turns.Verdict.TheVariants.{Quiet, NotQuiet}

@@ -8,7 +8,7 @@ ghost use Rattle.quiet_runs.specs.Verdicts.{JudgesPlay, JudgesTurn, IsCodeBetwee
 use crate::judging::judge;
 use crate::pieces::turn_piece;
 use dev_card::{Desc, Device};
-use quiet_deeds::Unquiet;
+use padded_plays::Unquiet;
 use stapl_meaning::Ending;
 use std::alloc::{AllocError, Global};
 use valid_codes::Code;

@@ -16,7 +16,7 @@ ghost use Rattle.quiet_watch.specs.WatchedDevices.{watched_of, watch_breakage, d
 use crate::watching::watch_play;
 use chain_sim::fit_board;
 use dev_card::{Desc, Device};
-use quiet_deeds::Unquiet;
+use padded_plays::Unquiet;
 use quiet_watch::Watch;
 use stapl_machine::Machine;
 use stapl_meaning::Ending;

@@ -12,7 +12,7 @@ use Rattle.stapl_code.specs.declared.raw.CodeLists.{CodeLists}
 use Rattle.stapl_codegen.specs.Generated.{IsCodeOf}
 use Rattle.stapl_player.specs.Choices.{code_choice}
 use Rattle.dev_card.specs.declared.desc.Desc.{Desc}
-use Rattle.quiet_deeds.specs.declared.unquiet.Unquiet.{Unquiet}
+use Rattle.padded_plays.specs.declared.unquiet.Unquiet.{Unquiet}
 use Rattle.quiet_runs.specs.declared.first_turns.Verdict.{Verdict}
 use Rattle.quiet_runs.specs.declared.first_turns.Verdict.TheVariants as verdicts
 use Rattle.quiet_runs.specs.Verdicts.{IsVerdict}

@@ -16,8 +16,8 @@ use Rattle.stapl_codegen.specs.Accepted.{IsAccepted}
 use Rattle.stapl_codegen.specs.Generated.{lists_of, IsCodeOf}
 use Rattle.dev_card.specs.declared.desc.Desc.{Desc}
 use Rattle.padded_plays.specs.QuietPlays.{IsQuietPlay, play_alone}
-use Rattle.quiet_deeds.specs.FirstDeeds.{HasFirstUnquiet}
-use Rattle.quiet_deeds.proofs.Firsts.{first_or_quiet}
+use Rattle.padded_plays.specs.FirstDeeds.{HasFirstUnquiet}
+use Rattle.padded_plays.proofs.Firsts.{first_or_quiet}
 use Rattle.board_text.specs.declared.reason.BoardReason.{BoardReason}
 use Rattle.board_text.specs.Boards.{IsBoard, IsFirstFault}
 use Rattle.named_files.specs.Texts.{refusal_line, board_refusal_line, usage_line}

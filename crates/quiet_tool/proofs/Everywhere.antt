@@ -13,7 +13,7 @@ use Rattle.named_files.proofs.BoardLemmas.{one_held}
 use Rattle.play_words.specs.declared.requests.PlayRequest.{PlayRequest}
 use Rattle.play_words.specs.declared.requests.FilePlay.{FilePlay}
 use Rattle.code_plays.specs.Plays.{neighbours}
-use Rattle.play_status.specs.declared.status.Status.{Status}
+use Rattle.play_words.specs.declared.status.Status.{Status}
 use Rattle.play_tool.specs.Answers.{PlaysAction}
 use Rattle.play_tool.specs.Answers as plays
 use Rattle.play_tool.specs.Alone.{alone_request, IsQuietAlone}

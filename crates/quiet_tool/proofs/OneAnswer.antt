@@ -11,8 +11,8 @@ use Rattle.stapl_meaning.specs.declared.events.Ending.{Ending}
 use Rattle.stapl_meaning.specs.Scopes.{Played}
 use Rattle.dev_card.specs.declared.desc.Desc.{Desc}
 use Rattle.board_text.specs.declared.reason.BoardReason.{BoardReason}
-use Rattle.quiet_deeds.specs.declared.unquiet.Unquiet.{Unquiet}
-use Rattle.quiet_deeds.proofs.Firsts.{more_are_not, one_first}
+use Rattle.padded_plays.specs.declared.unquiet.Unquiet.{Unquiet}
+use Rattle.padded_plays.proofs.Firsts.{more_are_not, one_first}
 use Rattle.named_files.specs.Texts.{refusal_line, board_refusal_line, usage_line}
 use Rattle.named_files.proofs.BoardLemmas.{one_held, one_fault, board_or_fault}
 use Rattle.tool_frame.specs.Files.{first_of, second_of}

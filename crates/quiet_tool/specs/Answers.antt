@@ -12,8 +12,8 @@ use Rattle.stapl_meaning.specs.Plays.{ending_of}
 use Rattle.dev_card.specs.declared.desc.Desc.{Desc}
 use Rattle.dev_card.specs.Padding.{in_run}
 use Rattle.padded_plays.specs.QuietPlays.{IsQuietPlay, play_alone}
-use Rattle.quiet_deeds.specs.declared.unquiet.Unquiet.{Unquiet}
-use Rattle.quiet_deeds.specs.FirstDeeds.{IsFirstUnquiet}
+use Rattle.padded_plays.specs.declared.unquiet.Unquiet.{Unquiet}
+use Rattle.padded_plays.specs.FirstDeeds.{IsFirstUnquiet}
 use Rattle.board_text.specs.declared.reason.BoardReason.{BoardReason}
 use Rattle.command_words.specs.declared.place_run.PlaceRun.{PlaceRun}
 use Rattle.tool_frame.specs.Files.{first_of, second_of}

@@ -12,7 +12,7 @@ use Rattle.play_words.specs.declared.requests.FilePlay.{FilePlay}
 use Rattle.play_words.specs.declared.requests.Request.TheVariants.{Play}
 use Rattle.play_words.specs.Words.{IsRequest}
 use Rattle.code_plays.specs.Plays.{has_place, neighbours}
-use Rattle.play_status.specs.declared.status.Status.{Status}
+use Rattle.play_words.specs.declared.status.Status.{Status}
 use Rattle.play_tool.specs.Answers.{PlaysAction}
 use Rattle.play_tool.specs.Answers as plays
 use Rattle.play_tool.specs.Alone.{alone_request}

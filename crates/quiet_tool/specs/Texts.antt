@@ -6,8 +6,8 @@ use Rattle.stapl_lexer.specs.declared.piece.Piece.{Piece}
 use Rattle.stapl_lexer.specs.Pieces.{IsCut}
 use Rattle.stapl_meaning.specs.declared.events.Ending.{Ending}
 use Rattle.stapl_meaning.specs.Texts.{ending_line}
-use Rattle.quiet_deeds.specs.declared.unquiet.Unquiet.{Unquiet}
-use Rattle.quiet_deeds.specs.declared.unquiet.Unquiet.TheVariants.{Instruction, Data, NotLoaded, ScanState}
+use Rattle.padded_plays.specs.declared.unquiet.Unquiet.{Unquiet}
+use Rattle.padded_plays.specs.declared.unquiet.Unquiet.TheVariants.{Instruction, Data, NotLoaded, ScanState}
 
 -- the play is quiet for so many turns, and ends so
 abbrev pub quiet_text : ℕ → Ending → List ℕ

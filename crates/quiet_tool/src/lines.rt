@@ -6,7 +6,7 @@ ghost use Rattle.stapl_meaning.specs.Texts.{ending_line};
 ghost use Rattle.quiet_tool.specs.Texts.{quiet_text, why_text, unquiet_line, line_of_piece};
 
 use itoa::Buffer;
-use quiet_deeds::Unquiet;
+use padded_plays::Unquiet;
 use stapl_lexer::Piece;
 use stapl_meaning::Ending;
 use std::alloc::{AllocError, Global};

@@ -3,7 +3,7 @@ ghost use Rattle.std.specs.Prelude.{◌≡◌};
 ghost use Rattle.quiet_tool.specs.Statuses.{exit_code_of};
 
 use board_text::BoardReason;
-use quiet_deeds::Unquiet;
+use padded_plays::Unquiet;
 use stapl_lexer::Reason;
 
 /// How the program ends.

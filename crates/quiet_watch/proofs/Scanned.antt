@@ -19,7 +19,7 @@ use Rattle.dev_card.proofs.ScanLines.{after-append, clocks-append}
 use Rattle.stapl_meaning.specs.Deeds.{based}
 use Rattle.padded_plays.specs.QuietClocks.{loaded_after}
 use Rattle.padded_plays.specs.QuietPlays.{no_base}
-use Rattle.quiet_deeds.specs.declared.unquiet.Unquiet.{Unquiet}
+use Rattle.padded_plays.specs.declared.unquiet.Unquiet.{Unquiet}
 use Rattle.quiet_watch.specs.HeardPlays.{watching}
 use Rattle.quiet_watch.specs.Watches.{marks, Watched, lengths_by, or_else, scan_seen, watch_after, watch_answers}
 use Rattle.quiet_watch.proofs.Walked.{path_there, after_both, answers_both, or_none, walks_seen, walk_after, walk_answers}

@@ -12,8 +12,8 @@ use Rattle.dev_card.specs.Card.{Card}
 use Rattle.dev_card.specs.Board.{Input, board_tdo, board_step, board_after, clocks_of, tdos}
 use Rattle.dev_card.specs.Clocks.{with_zero}
 use Rattle.padded_plays.specs.QuietClocks.{is_scan_state, IsQuietWalk, loaded_at, loaded_after}
-use Rattle.quiet_deeds.specs.declared.unquiet.Unquiet.{Unquiet}
-use Rattle.quiet_deeds.specs.declared.unquiet.Unquiet.TheVariants.{ScanState}
+use Rattle.padded_plays.specs.declared.unquiet.Unquiet.{Unquiet}
+use Rattle.padded_plays.specs.declared.unquiet.Unquiet.TheVariants.{ScanState}
 use Rattle.quiet_watch.specs.HeardPlays.{watching}
 use Rattle.quiet_watch.specs.Watches.{Watched, or_else, walk_seen, watch_step, watch_tdo, watch_after, watch_answers, ends_in}
 

@@ -20,10 +20,10 @@ use Rattle.stapl_meaning.specs.Deeds.{Deed, Says, Goes, Stays, Scans, Chain, bas
 use Rattle.padded_plays.specs.QuietClocks.{is_scan_state, IsQuietWalk, loaded_after}
 use Rattle.padded_plays.specs.QuietPlays.{no_base, IsQuietDeed, loaded_by_deed}
 use Rattle.padded_plays.proofs.SameDeeds.{chain_alone}
-use Rattle.quiet_deeds.specs.declared.unquiet.Unquiet.{Unquiet}
-use Rattle.quiet_deeds.specs.declared.unquiet.Unquiet.TheVariants.{NotLoaded, ScanState}
-use Rattle.quiet_deeds.specs.Reasons.{IsReason, shifted_count, register_count, length_reason}
-use Rattle.quiet_deeds.proofs.Reasoned.{no_reason, one_reason, wrong_length, none_loaded, wrong_way, moves_wrong, stays_wrong}
+use Rattle.padded_plays.specs.declared.unquiet.Unquiet.{Unquiet}
+use Rattle.padded_plays.specs.declared.unquiet.Unquiet.TheVariants.{NotLoaded, ScanState}
+use Rattle.padded_plays.specs.Reasons.{IsReason, shifted_count, register_count, length_reason}
+use Rattle.padded_plays.proofs.Reasoned.{no_reason, one_reason, wrong_length, none_loaded, wrong_way, moves_wrong, stays_wrong}
 use Rattle.quiet_watch.specs.HeardPlays.{watching, tap_by}
 use Rattle.quiet_watch.specs.Watches.{marks, Watched, lengths_by, or_else, scan_seen, watch_after, ends_in}
 use Rattle.quiet_watch.proofs.Walked.{path_there, walks_seen, walk_after, unquiet_sees, quiet_sees, quiet_ends, walk_keeps_seen}

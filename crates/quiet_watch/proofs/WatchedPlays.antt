@@ -26,11 +26,11 @@ use Rattle.padded_plays.specs.QuietPlays.{IsQuietDeed, loaded_by_deed, AreQuietD
 use Rattle.padded_plays.proofs.QuietTurns.{with_events_first}
 use Rattle.padded_plays.proofs.SameDeeds.{chain_alone}
 use Rattle.padded_plays.proofs.StableStays.{StayInStable, TurnStays, turn_stays, beginning_stays}
-use Rattle.quiet_deeds.specs.declared.unquiet.Unquiet.{Unquiet}
-use Rattle.quiet_deeds.specs.declared.unquiet.Unquiet.TheVariants.{ScanState}
-use Rattle.quiet_deeds.specs.Reasons.{IsReason}
-use Rattle.quiet_deeds.specs.FirstDeeds.{HasUnquiet, HasUnquietDeed}
-use Rattle.quiet_deeds.proofs.Firsts.{head_or_tail, deeds_decided, SomeUnquiet, no_unquiet}
+use Rattle.padded_plays.specs.declared.unquiet.Unquiet.{Unquiet}
+use Rattle.padded_plays.specs.declared.unquiet.Unquiet.TheVariants.{ScanState}
+use Rattle.padded_plays.specs.Reasons.{IsReason}
+use Rattle.padded_plays.specs.FirstDeeds.{HasUnquiet, HasUnquietDeed}
+use Rattle.padded_plays.proofs.Firsts.{head_or_tail, deeds_decided, SomeUnquiet, no_unquiet}
 use Rattle.quiet_watch.specs.Watches.{marks, Watched, or_else, watch_after, ends_in, seen_by}
 use Rattle.quiet_watch.specs.HeardPlays.{watching, first_watch, marked_chain, tap_by, HearsDeeds, HearsPlay, HasSeenPlay}
 use Rattle.quiet_watch.proofs.Scanned.{bits_in, captures_same}

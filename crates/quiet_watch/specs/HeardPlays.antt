@@ -14,8 +14,8 @@ use Rattle.stapl_meaning.specs.Scopes.{Played}
 use Rattle.stapl_meaning.specs.Plays.{procedures_run, reset_inputs}
 use Rattle.padded_plays.specs.PaddedRuns.{fresh_board}
 use Rattle.padded_plays.specs.QuietPlays.{deeds_of_play, first_chain, IsQuietPlay}
-use Rattle.quiet_deeds.specs.declared.unquiet.Unquiet.{Unquiet}
-use Rattle.quiet_deeds.specs.FirstDeeds.{HasUnquietDeed}
+use Rattle.padded_plays.specs.declared.unquiet.Unquiet.{Unquiet}
+use Rattle.padded_plays.specs.FirstDeeds.{HasUnquietDeed}
 use Rattle.quiet_watch.specs.Watches.{marks, Watched, watch_after, watch_answers, seen_by}
 
 -- a watch outside scans

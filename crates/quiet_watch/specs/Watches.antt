@@ -12,9 +12,9 @@ use Rattle.dev_card.specs.Board.{Input, board_tdo, board_step}
 use Rattle.dev_card.specs.Padding.{BaseLengths}
 use Rattle.scan_paths.specs.Cables.{Signal, Pulses, Waits, Tunes}
 use Rattle.padded_plays.specs.QuietClocks.{is_scan_state, loaded_at}
-use Rattle.quiet_deeds.specs.declared.unquiet.Unquiet.{Unquiet}
-use Rattle.quiet_deeds.specs.declared.unquiet.Unquiet.TheVariants.{NotLoaded, ScanState}
-use Rattle.quiet_deeds.specs.Reasons.{length_reason}
+use Rattle.padded_plays.specs.declared.unquiet.Unquiet.{Unquiet}
+use Rattle.padded_plays.specs.declared.unquiet.Unquiet.TheVariants.{NotLoaded, ScanState}
+use Rattle.padded_plays.specs.Reasons.{length_reason}
 use Rattle.quiet_watch.specs.declared.counting.Counting.{Counting}
 
 -- the base padding by which a scan is told

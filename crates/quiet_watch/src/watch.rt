@@ -17,7 +17,7 @@ use crate::counting::Counting;
 use crate::lengths::lengths;
 use chain_sim::{clock_all, first_tdo};
 use dev_card::{Desc, Device};
-use quiet_deeds::Unquiet;
+use padded_plays::Unquiet;
 use scan_paths::Cable;
 use tap_states::Tap;
 use tool_io::Failed;

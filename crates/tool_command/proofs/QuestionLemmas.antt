@@ -3,8 +3,8 @@ use Rattle.std.proofs.Common.{◌≡◌, ℕ, List, Option, Result, Ok, Err, ref
 use Rattle.tool_frame.specs.declared.no_answer.NoAnswer.{NoAnswer}
 use Rattle.tool_frame.specs.declared.no_answer.NoAnswer.TheVariants.{Read, Write, Memory}
 use Rattle.tool_frame.specs.Answers.{Wrote, HasWritten}
-use Rattle.play_status.specs.declared.status.Status.{Status}
-use Rattle.play_status.specs.Statuses.{IsFault}
+use Rattle.play_words.specs.declared.status.Status.{Status}
+use Rattle.play_words.specs.Statuses.{IsFault}
 use Rattle.tool_command.specs.Commands.{status_of}
 
 cause_fault : (e : NoAnswer) → IsFault (status_of (Err e))

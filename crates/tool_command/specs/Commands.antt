@@ -2,8 +2,8 @@
 -- other words are the tool's. The rules are this program's own.
 use Rattle.std.specs.Prelude.{ℕ, pos, List, Option, Result, Ok, Err}
 use Rattle.tool_frame.specs.Commands as commands
-use Rattle.play_status.specs.declared.status.Status.{Status}
-use Rattle.play_status.specs.declared.status.Status.TheVariants.{Done, ReadFault, WriteFault, Memory as NoMemory}
+use Rattle.play_words.specs.declared.status.Status.{Status}
+use Rattle.play_words.specs.declared.status.Status.TheVariants.{Done, ReadFault, WriteFault, Memory as NoMemory}
 use Rattle.tool_frame.specs.declared.no_answer.NoAnswer.{NoAnswer}
 use Rattle.tool_frame.specs.declared.no_answer.NoAnswer.TheVariants as causes
 use Rattle.play_tool.specs.ReadContents.{IsReachedBy}

@@ -4,7 +4,7 @@ ghost use Rattle.tool_io.specs.Causes.{HasRisen, NeverFalls, NoneFalls};
 ghost use Rattle.tool_frame.specs.Answers.{Wrote, WroteFront};
 ghost use Rattle.chain_sim.specs.Rack.{IsRack};
 ghost use Rattle.tool_frame.specs.Files.{OfFiles, NamesOne, first_of, HasReadCause};
-ghost use Rattle.play_status.specs.Statuses.{IsFault, ComesBeforeFitting};
+ghost use Rattle.play_words.specs.Statuses.{IsFault, ComesBeforeFitting};
 ghost use Rattle.play_tool.specs.Answers.{WordsAnswer};
 ghost use Rattle.play_tool.specs.FinalRacks.{AskForPlay};
 ghost use Rattle.play_tool.specs.ReadContents.{OfWords, Answered};
@@ -12,9 +12,8 @@ ghost use Rattle.tool_questions.specs.Questions.{ask_question, QuestionAnswer, I
 ghost use Rattle.tool_command.specs.Commands.{CommandAnswer, IsReachedByCommand, status_of};
 
 use dev_card::Device;
-use play_status::Status;
+use play_words::{HELP, VERSION, Status};
 use play_tool::run_tool;
-use play_words::{HELP, VERSION};
 use std::alloc::Global;
 use tool_frame::{NoAnswer, run, text_asked, write_text};
 use tool_io::{Shelf, Sink};

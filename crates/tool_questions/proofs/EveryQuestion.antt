@@ -16,9 +16,9 @@ use Rattle.stapl_checker.proofs.Answered.{program_or_fault}
 use Rattle.stapl_checker.proofs.UniqueLemmas.{no_fault}
 use Rattle.command_words.proofs.FoundOrNot.{IsFoundOrNot, path_or_not, number_or_not}
 use Rattle.named_files.specs.Texts.{usage_line}
-use Rattle.program_reports.specs.Explanations.{word_paragraphs}
-use Rattle.play_status.specs.declared.status.Status.{Status}
-use Rattle.play_status.specs.declared.status.Status.TheVariants.{Done, Usage}
+use Rattle.tool_questions.specs.Explanations.{word_paragraphs}
+use Rattle.play_words.specs.declared.status.Status.{Status}
+use Rattle.play_words.specs.declared.status.Status.TheVariants.{Done, Usage}
 use Rattle.tool_questions.specs.declared.report.Refusal.{Refusal}
 use Rattle.tool_questions.specs.Pieces.{piece_numbered, RefusalAt, refusal_text, shown_text, KnownAnswer, shown, ended, lacking, too_long, PieceAnswer, known, long}
 use Rattle.tool_questions.specs.Questions.{IsUsage, IsExplained, explained, unknown, WordAnswer, NamesPiece, NamesProgram, no_file, after_file, HasPieceUsage, no_number, after_number, PieceQuestionAnswer, asked, refused, QuestionAnswer, of_word, of_piece, no_question}

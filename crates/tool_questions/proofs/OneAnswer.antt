@@ -5,8 +5,8 @@ use Rattle.stapl_lexer.proofs.PieceLemmas.{cut_one_way}
 use Rattle.stapl_checker.proofs.UniqueLemmas.{one_first_fault}
 use Rattle.named_files.specs.Texts.{usage_line}
 use Rattle.command_words.proofs.ValueLemmas.{one_path, one_number}
-use Rattle.play_status.specs.declared.status.Status.{Status}
-use Rattle.play_status.specs.declared.status.Status.TheVariants.{Done, Usage}
+use Rattle.play_words.specs.declared.status.Status.{Status}
+use Rattle.play_words.specs.declared.status.Status.TheVariants.{Done, Usage}
 use Rattle.tool_questions.specs.declared.report.PieceReport.{PieceReport}
 use Rattle.tool_questions.specs.declared.report.Refusal.{Refusal}
 use Rattle.tool_questions.specs.Pieces.{piece_numbered, RefusalAt, refusal_text, shown_text, IsReport, KnownAnswer, shown, ended, lacking, IsLongAnswer, too_long, PieceAnswer, known, long, HeldPieceAnswer}

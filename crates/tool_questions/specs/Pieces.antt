@@ -9,9 +9,9 @@ use Rattle.stapl_lexer.specs.declared.reason.Reason.TheVariants.{TooLong}
 use Rattle.stapl_lexer.specs.Pieces.{IsCut, text_limit}
 use Rattle.stapl_syntax.specs.Programs.{FirstFault}
 use Rattle.named_files.specs.Texts.{refusal_line, usage_line}
-use Rattle.program_reports.specs.Explanations.{reason_paragraphs}
-use Rattle.play_status.specs.declared.status.Status.{Status}
-use Rattle.play_status.specs.declared.status.Status.TheVariants.{Done, Usage}
+use Rattle.tool_questions.specs.Explanations.{reason_paragraphs}
+use Rattle.play_words.specs.declared.status.Status.{Status}
+use Rattle.play_words.specs.declared.status.Status.TheVariants.{Done, Usage}
 use Rattle.tool_questions.specs.declared.report.PieceReport.{PieceReport}
 use Rattle.tool_questions.specs.declared.report.Refusal.{Refusal}
 

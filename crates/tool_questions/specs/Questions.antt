@@ -5,9 +5,9 @@ use Rattle.std.specs.List.{flat_map}
 use Rattle.tool_io.specs.Texts.{word_line}
 use Rattle.command_words.specs.KeyedWords.{NamesNumber, NamesPath}
 use Rattle.named_files.specs.Texts.{usage_line}
-use Rattle.program_reports.specs.Explanations.{word_paragraphs}
-use Rattle.play_status.specs.declared.status.Status.{Status}
-use Rattle.play_status.specs.declared.status.Status.TheVariants.{Done, Usage}
+use Rattle.tool_questions.specs.Explanations.{word_paragraphs}
+use Rattle.play_words.specs.declared.status.Status.{Status}
+use Rattle.play_words.specs.declared.status.Status.TheVariants.{Done, Usage}
 use Rattle.tool_questions.specs.Pieces.{HeldPieceAnswer}
 
 -- the first word is that of a question

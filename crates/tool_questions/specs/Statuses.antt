@@ -1,10 +1,10 @@
 -- No answer to words has the status of a fault, or its exit code. The rules are this tool's own.
 use Rattle.std.proofs.Common.{ℕ, List, [], ◌∷◌, Option, Some, None, subst}
 use Rattle.tool_frame.specs.Frame.{IsNoFaultCode}
-use Rattle.play_status.specs.declared.status.Status.{Status}
-use Rattle.play_status.specs.Codes.{exit_code_of}
-use Rattle.play_status.specs.Statuses.{IsFault}
-use Rattle.play_status.specs.NoFaults.{no_fault_code}
+use Rattle.play_words.specs.declared.status.Status.{Status}
+use Rattle.play_words.specs.Codes.{exit_code_of}
+use Rattle.play_words.specs.Statuses.{IsFault}
+use Rattle.play_words.specs.NoFaults.{no_fault_code}
 use Rattle.tool_questions.specs.Pieces.{KnownAnswer, shown, ended, lacking, IsLongAnswer, too_long, known, long, HeldPieceAnswer}
 use Rattle.tool_questions.specs.Questions.{IsUsage, IsExplained, explained, unknown, WordAnswer, asked, refused, QuestionAnswer, of_word, of_piece, no_question}
 

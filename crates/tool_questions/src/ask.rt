@@ -2,12 +2,12 @@
 ghost use Rattle.std.specs.Prelude.{◌≡◌, map, string_bytes};
 ghost use Rattle.tool_io.specs.Lines.{IsWhole};
 ghost use Rattle.tool_frame.specs.Answers.{Says};
-ghost use Rattle.program_reports.specs.Explanations.{word_paragraphs};
+ghost use Rattle.tool_questions.specs.Explanations.{word_paragraphs};
 ghost use Rattle.tool_questions.specs.Questions.{ask_question, IsUsage, IsExplained, WordAnswer};
 
+use crate::explanations::{explanation, put_paragraphs};
 use named_files::put_usage;
-use play_status::Status;
-use program_reports::{explanation, put_paragraphs};
+use play_words::Status;
 use std::alloc::Global;
 use tool_frame::NoAnswer;
 use tool_io::{Lines, Sink};

@@ -3,6 +3,8 @@
 #![tactic(auto)]
 
 mod ask;
+mod explanation_texts;
+mod explanations;
 pub mod laws;
 mod lines;
 mod piece;

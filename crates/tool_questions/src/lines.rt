@@ -4,9 +4,9 @@ ghost use Rattle.tool_io.specs.Lines.{IsWhole, HasPut};
 ghost use Rattle.stapl_lexer.specs.Pieces.{LiesIn};
 ghost use Rattle.tool_questions.specs.Pieces.{piece_text, refusal_text, why_refused, shown_text};
 
+use crate::explanations::put_paragraphs;
 use crate::report::Refusal;
 use named_files::put_refusal;
-use program_reports::put_paragraphs;
 use stapl_lexer::Piece;
 use tool_io::{Failed, Lines, Sink, put_count, put_count_line};
 

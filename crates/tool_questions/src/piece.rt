@@ -6,11 +6,11 @@ ghost use Rattle.tool_frame.specs.Files.{OfFile, KeepsShelf};
 ghost use Rattle.stapl_lexer.specs.Pieces.{LiesIn, text_limit};
 ghost use Rattle.tool_questions.specs.Pieces.{why_refused, IsReport, PieceAnswer, IsLongAnswer, HeldPieceAnswer};
 
+use crate::explanations::reason_explanation;
 use crate::lines::{Shown, put_refused, put_shown};
 use crate::report::{PieceReport, Refusal, report_of};
 use named_files::put_usage;
-use play_status::Status;
-use program_reports::reason_explanation;
+use play_words::Status;
 use stapl_lexer::{Reason, TEXT_LIMIT};
 use std::alloc::{AllocError, Global};
 use tool_frame::NoAnswer;

@@ -1,6 +1,6 @@
 //! What the tool answers if a call of the store or of the sink fails: each of them in turn.
 use crate::plays::{Outside, answer};
-use play_status::Status;
+use play_words::Status;
 use std::alloc::Global;
 use std::test::Fail;
 

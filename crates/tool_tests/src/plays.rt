@@ -5,7 +5,7 @@ ghost use Rattle.std.specs.Prelude.{◌≡◌, length, IfOk};
 use board_text::BoardReason;
 use dev_card::Device;
 use device_rack::{fill_rack, is_rack};
-use play_status::Status;
+use play_words::Status;
 use play_tool::run_tool;
 use stapl_code::CodeReason;
 use stapl_lexer::Reason;

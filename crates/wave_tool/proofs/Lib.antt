@@ -1,3 +1,4 @@
+pub mod WaveLemmas
 pub mod WordLemmas
 pub mod OneAnswer
 pub mod AnswerLemmas

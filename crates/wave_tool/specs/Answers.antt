@@ -5,8 +5,8 @@ use Rattle.named_files.specs.Texts.{usage_line}
 use Rattle.pin_lines.specs.PinLines.{has_bad_line}
 use Rattle.pin_lines.specs.FirstFaults.{IsFirstBadLine}
 use Rattle.trace_tool.specs.Texts.{bad_line_text, too_long_line}
-use Rattle.pin_waves.specs.Items.{items_in}
-use Rattle.pin_waves.specs.Waves.{wave_text}
+use Rattle.wave_tool.specs.Items.{items_in}
+use Rattle.wave_tool.specs.Waves.{wave_text}
 use Rattle.trace_check.specs.Limits.{trace_limit}
 use Rattle.wave_tool.specs.declared.status.WaveStatus.{WaveStatus}
 use Rattle.wave_tool.specs.declared.status.WaveStatus.TheVariants.{Written, BadLine, TooLong, Usage}

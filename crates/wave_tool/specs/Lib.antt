@@ -1,3 +1,6 @@
+pub mod Items
+pub mod Waves
+pub mod Found
 pub mod Words
 pub mod Statuses
 pub mod Answers

@@ -7,7 +7,7 @@ ghost use Rattle.tool_frame.specs.Files.{OfFile, KeepsShelf};
 ghost use Rattle.wave_tool.specs.Answers.{WaveAnswer, FileAnswer};
 
 use crate::WaveStatus;
-use pin_waves::put_wave;
+use crate::wave::put_wave;
 use std::alloc::Global;
 use tool_frame::NoAnswer;
 use tool_io::{Lines, ReadRefused, Shelf, Sink, read_whole};

@@ -3,10 +3,13 @@
 
 mod answering;
 mod help;
+mod items;
 pub mod laws;
 mod status;
+mod wave;
 mod waver;
 mod words;
 
 pub use status::WaveStatus;
+pub use wave::put_wave;
 pub use waver::Waver;

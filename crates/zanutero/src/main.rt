@@ -3,7 +3,7 @@
 
 use dev_card::Device;
 use device_rack::{fill_rack, is_rack};
-use play_status::Status;
+use play_words::Status;
 use std::alloc::AllocError;
 use std::io;
 use std::process::ExitCode;

@@ -1,6 +1,6 @@
 use Rattle.std.proofs.Common.{sym, ap, ◌∙◌, Err, codes}
 use Rattle.stapl_meaning.specs.Choices.{chosen}
-use Rattle.play_status.specs.declared.status.Status.TheVariants.{NoAction, BadChoice, BadPlace}
+use Rattle.play_words.specs.declared.status.Status.TheVariants.{NoAction, BadChoice, BadPlace}
 use Rattle.tool_frame.proofs.AnswerLemmas.{says_within, says_failed, said_text, said_front}
 use Rattle.code_plays.specs.Plays.{no_action, bad_choice, bad_place}
 use Rattle.code_plays.specs.CodePlays.{task_play}

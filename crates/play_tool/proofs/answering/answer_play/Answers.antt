@@ -3,7 +3,7 @@ use Rattle.tool_frame.specs.declared.no_answer.NoAnswer.TheVariants.{Read, Memor
 use Rattle.tool_frame.proofs.AnswerLemmas.{says_failed, said_text, said_front}
 use Rattle.named_files.proofs.BoardLemmas.{fault_is}
 use Rattle.play_words.specs.Words.{play_files}
-use Rattle.play_status.specs.declared.status.Status.TheVariants.{BoardRefused}
+use Rattle.play_words.specs.declared.status.Status.TheVariants.{BoardRefused}
 use Rattle.play_tool.specs.Answers.{board_refused}
 use Rattle.play_tool.specs.ReadContents.{board_reached}
 use Rattle.play_tool.proofs.AnswerLemmas.{board_of_devices}

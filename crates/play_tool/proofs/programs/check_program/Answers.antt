@@ -1,6 +1,6 @@
 use Rattle.std.proofs.Common.{refl, pos}
 use Rattle.stapl_syntax.specs.ProgramValues.{trees_of}
-use Rattle.play_status.specs.declared.status.Status.TheVariants.{Done}
+use Rattle.play_words.specs.declared.status.Status.TheVariants.{Done}
 use Rattle.program_reports.specs.Checks.{check_text, checked}
 use Rattle.tool_frame.proofs.AnswerLemmas.{says_failed, says_no_memory, said_text, said_front}
 use Rattle.play_tool.proofs.programs.check_program.Goals as goal

@@ -1,5 +1,5 @@
 use Rattle.std.proofs.Common.{refl, pos}
-use Rattle.play_status.specs.declared.status.Status.TheVariants.{Done}
+use Rattle.play_words.specs.declared.status.Status.TheVariants.{Done}
 use Rattle.tool_frame.proofs.AnswerLemmas.{says_failed, says_no_memory, said_text, said_front}
 use Rattle.play_tool.proofs.ProgramLemmas.{compiled_file}
 use Rattle.play_tool.proofs.programs.compile_program.Goals as goal

@@ -1,6 +1,6 @@
 use Rattle.std.proofs.Common.{refl, pos}
 use Rattle.stapl_syntax.specs.ProgramValues.{trees_of}
-use Rattle.play_status.specs.declared.status.Status.TheVariants.{Done}
+use Rattle.play_words.specs.declared.status.Status.TheVariants.{Done}
 use Rattle.program_reports.specs.Listings.{list_text}
 use Rattle.tool_frame.proofs.AnswerLemmas.{says_failed, said_text, said_front}
 use Rattle.play_tool.proofs.programs.list_program.Goals as goal

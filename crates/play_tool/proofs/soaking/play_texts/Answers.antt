@@ -1,5 +1,5 @@
 use Rattle.std.proofs.Common.{sym, ap, Err}
-use Rattle.play_status.specs.declared.status.Status.TheVariants.{BoardRefused}
+use Rattle.play_words.specs.declared.status.Status.TheVariants.{BoardRefused}
 use Rattle.tool_frame.proofs.AnswerLemmas.{says_within, says_failed, said_text, said_front}
 use Rattle.code_plays.proofs.PlayLemmas.{rack_as}
 use Rattle.play_tool.specs.Answers.{board_refused}

@@ -1,7 +1,7 @@
 use Rattle.std.proofs.Common.{sym, ap, Err, Some, refl}
 use Rattle.tool_frame.specs.declared.no_answer.NoAnswer.TheVariants.{Read, Memory}
 use Rattle.named_files.proofs.BoardLemmas.{of_file_as, of_any_file}
-use Rattle.play_status.specs.declared.status.Status.TheVariants.{CodeRefused}
+use Rattle.play_words.specs.declared.status.Status.TheVariants.{CodeRefused}
 use Rattle.play_tool.proofs.CodeLemmas.{code_answers, file_final, fault_is, code_refusal_failed, code_refusal_put}
 use Rattle.play_tool.proofs.FileLemmas.{left_failed, left_refused, left_unread, said_and_left}
 use Rattle.play_tool.proofs.sources.play_code_file.Goals as goal

@@ -3,7 +3,7 @@ use Rattle.stapl_syntax.specs.ProgramValues.{trees_of}
 use Rattle.tool_frame.specs.declared.no_answer.NoAnswer.TheVariants.{Read, Memory}
 use Rattle.named_files.proofs.BoardLemmas.{of_file_as, of_any_file}
 use Rattle.program_files.proofs.ProgramLemmas.{of_text, fault_is, refusal_failed, refusal_put}
-use Rattle.play_status.specs.declared.status.Status.TheVariants.{Refused}
+use Rattle.play_words.specs.declared.status.Status.TheVariants.{Refused}
 use Rattle.play_tool.specs.Answers.{PlaysAction, TextAnswer, refused}
 use Rattle.play_tool.proofs.AnswerLemmas.{program_in_text}
 use Rattle.play_tool.proofs.FileLemmas.{left_failed, left_refused, left_unread, said_and_left}

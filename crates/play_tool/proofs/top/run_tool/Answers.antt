@@ -1,5 +1,5 @@
 use Rattle.std.proofs.Common.{sym, subst}
-use Rattle.play_status.specs.Statuses.{IsFault}
+use Rattle.play_words.specs.Statuses.{IsFault}
 use Rattle.tool_frame.proofs.AnswerLemmas.{wrote_within}
 use Rattle.tool_frame.proofs.FileLemmas.{of_files_as}
 use Rattle.play_tool.specs.NoFaults.{answer_status}

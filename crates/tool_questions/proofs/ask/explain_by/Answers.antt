@@ -1,8 +1,8 @@
 use Rattle.std.proofs.Common.{pos, refl}
 use Rattle.std.specs.List.{flat_map}
 use Rattle.tool_io.specs.Texts.{word_line}
-use Rattle.program_reports.specs.Explanations.{word_paragraphs}
-use Rattle.play_status.specs.declared.status.Status.TheVariants.{Done}
+use Rattle.tool_questions.specs.Explanations.{word_paragraphs}
+use Rattle.play_words.specs.declared.status.Status.TheVariants.{Done}
 use Rattle.tool_frame.proofs.AnswerLemmas.{says_failed, said_front, said_text, says_within}
 use Rattle.tool_questions.specs.Questions.{explained, unknown}
 use Rattle.tool_questions.proofs.WordLemmas.{none_said, some_said}

@@ -1,7 +1,7 @@
 use Rattle.std.specs.List.{flat_map}
 use Rattle.tool_io.specs.Texts.{word_line}
 use Rattle.tool_io.proofs.PutLemmas.{front_with, put_failed, put_then_put}
-use Rattle.program_reports.specs.Explanations.{reason_paragraphs}
+use Rattle.tool_questions.specs.Explanations.{reason_paragraphs}
 use Rattle.tool_questions.proofs.lines.put_refused.Goals as goal
 
 pub returns-in_err-put_refusal : goal.returns-in_err-put_refusal

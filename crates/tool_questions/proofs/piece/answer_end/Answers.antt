@@ -1,6 +1,6 @@
 use Rattle.std.proofs.Common.{Some, pos}
 use Rattle.named_files.specs.Texts.{usage_line}
-use Rattle.play_status.specs.declared.status.Status.TheVariants.{Done, Usage}
+use Rattle.play_words.specs.declared.status.Status.TheVariants.{Done, Usage}
 use Rattle.tool_frame.proofs.AnswerLemmas.{says_failed, said_text, said_front}
 use Rattle.tool_questions.specs.Pieces.{refusal_text, known, ended, lacking}
 use Rattle.tool_questions.proofs.piece.answer_end.Goals as goal

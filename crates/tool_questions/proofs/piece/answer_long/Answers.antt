@@ -1,6 +1,6 @@
 use Rattle.std.proofs.Common.{Some, pos}
 use Rattle.stapl_lexer.specs.declared.reason.Reason.TheVariants.{TooLong}
-use Rattle.play_status.specs.declared.status.Status.TheVariants.{Done}
+use Rattle.play_words.specs.declared.status.Status.TheVariants.{Done}
 use Rattle.tool_frame.proofs.AnswerLemmas.{says_failed, said_text, said_front}
 use Rattle.tool_questions.specs.Pieces.{refusal_text, too_long}
 use Rattle.tool_questions.proofs.piece.answer_long.Goals as goal

@@ -1,5 +1,5 @@
 use Rattle.std.proofs.Common.{pos}
-use Rattle.play_status.specs.declared.status.Status.TheVariants.{Done}
+use Rattle.play_words.specs.declared.status.Status.TheVariants.{Done}
 use Rattle.tool_frame.proofs.AnswerLemmas.{says_failed, said_text, said_front}
 use Rattle.tool_questions.specs.Pieces.{shown_text, known, shown}
 use Rattle.tool_questions.proofs.piece.answer_report.Goals as goal

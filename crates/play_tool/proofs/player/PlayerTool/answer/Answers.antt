@@ -3,7 +3,7 @@ use Rattle.tool_frame.specs.declared.no_answer.NoAnswer.TheVariants.{Memory}
 use Rattle.tool_frame.proofs.AnswerLemmas.{says_failed, said_text, said_front}
 use Rattle.play_words.specs.Words.{IsUsage, IsWordsRefused}
 use Rattle.play_words.proofs.OneRequest.{one_request, no_usage}
-use Rattle.play_status.specs.declared.status.Status.TheVariants.{Usage}
+use Rattle.play_words.specs.declared.status.Status.TheVariants.{Usage}
 use Rattle.play_tool.specs.Answers.{usage}
 use Rattle.play_tool.specs.FinalRacks.{IsPlaying, AskForPlay}
 use Rattle.play_tool.proofs.AnswerLemmas.{request_in_words}

@@ -1,5 +1,0 @@
-pub mod Limits
-pub mod ExprFaults
-pub mod PartFaults
-pub mod RowFaults
-pub mod TurnFaults

@@ -1,0 +1,12 @@
+use Rattle.meaning_laws.proofs.DivisionLemmas.{shifted_left, shifted_right, left_outside, right_outside}
+use Rattle.meaning_laws.proofs.OneQuotient.{one_rounded}
+use Rattle.meaning_laws.proofs.laws.values.shifts_go_by_powers_of_two.Goals as goal
+
+pub returns : goal.returns
+returns c = record {
+  to_left = shifted_left;
+  to_right = shifted_right;
+  left_outside = left_outside;
+  right_outside = right_outside;
+  one = one_rounded;
+}

@@ -1,0 +1,10 @@
+pub mod Limits
+pub mod ExprFaults
+pub mod PartFaults
+pub mod RowFaults
+pub mod TurnFaults
+pub mod Places
+pub mod Bits
+pub mod Numbers
+pub mod Outcomes
+pub mod Sides

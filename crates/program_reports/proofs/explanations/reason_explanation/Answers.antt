@@ -1,4 +1,0 @@
-use Rattle.program_reports.proofs.explanations.reason_explanation.Goals as goal
-
-pub returns : goal.returns
-returns c = rw (c.deref.ensures.value, c.in_ok-head.ensures, c.name.ensures) at c.lines_with.ensures

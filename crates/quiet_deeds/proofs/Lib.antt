@@ -1,3 +1,0 @@
-pub mod Reasoned
-pub mod Firsts
-pub mod DeedsAdded

@@ -1,5 +1,0 @@
-use Rattle.quiet_deeds.proofs.Firsts.{fewer_are_quiet, more_are_not, one_first}
-use Rattle.quiet_deeds.proofs.laws.the_first_deed_is_the_first.Goals as goal
-
-pub returns : goal.returns
-returns c = record { fewer = fewer_are_quiet; more = more_are_not; one = one_first }

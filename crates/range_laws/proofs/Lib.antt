@@ -1,4 +1,0 @@
-pub mod PlaceLemmas
-pub mod PartLemmas
-pub mod ReadLemmas
-pub mod WriteLemmas

@@ -1,5 +1,0 @@
-use Rattle.range_laws.proofs.PlaceLemmas.{some_places, same_places}
-use Rattle.range_laws.proofs.laws.each_range_has_places.Goals as goal
-
-pub returns : goal.returns
-returns c = record { exist = some_places; same = same_places }

@@ -1,4 +1,0 @@
-pub mod Bits
-pub mod Numbers
-pub mod Outcomes
-pub mod Sides
