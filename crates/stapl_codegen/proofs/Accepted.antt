@@ -107,7 +107,7 @@ module _ (P : BodyTree → Type 0) where
   abbrev Holds : StmtTree → Type 0
   Holds st = P st.body
 
-  pieces_all : P end_data → (now : Option (List ℕ)) (rest : List StmtTree) → All Holds rest → All Holds (pieces_from now rest)
+  pub pieces_all : P end_data → (now : Option (List ℕ)) (rest : List StmtTree) → All Holds rest → All Holds (pieces_from now rest)
   pieces_all none now [] each = All-nil Holds
   pieces_all none now (st ∷ rest) each =
       All-cons Holds (if plays now st.body then st else idle) (pieces_from (data_after now st.body) rest) (by (plays now st.body))
@@ -120,7 +120,7 @@ module _ (P : BodyTree → Type 0) where
   abbrev HoldsOf : Option Preset → Type 0
   HoldsOf o = IfSome o (λ (preset : Preset). P preset.body)
 
-  presets_all : (now : Option (List ℕ)) (rest : List StmtTree) → All Holds rest → All HoldsOf (presets_from now rest)
+  pub presets_all : (now : Option (List ℕ)) (rest : List StmtTree) → All Holds rest → All HoldsOf (presets_from now rest)
   presets_all now [] each = All-nil HoldsOf
   presets_all now (st ∷ rest) each =
       All-cons HoldsOf (preset_of now st.body) (presets_from (data_after now st.body) rest) (by (preset_of now st.body) refl)

@@ -16,7 +16,7 @@ use Rattle.stapl_code.specs.declared.instr.Instr.TheVariants.{Turn}
 use Rattle.stapl_code.specs.Machine.{nowhere}
 use Rattle.stapl_codegen.specs.Emit.{Firsts, past, body_code, row_texts, row_literals, rows_items, preset_items, statements_items, first_items, pieces_items, texts_before, literals_before, body_texts, body_literals, firsts_at, preset_firsts, preset_code, presets_code, piece_code, pieces_code, code_to, start_in, start_of, total_of}
 use Rattle.stapl_codegen.specs.Numbers.{numbers_from}
-use Rattle.stapl_codegen.specs.Drafts.{number_in, Site, Draft, site_at, site_after, preset_site, scope_of_site, piece_code_in, initial_code_in, preset_code_in, ArePresetsWritten, AreDrafted, StartsTo, IsDraft}
+use Rattle.stapl_codegen.specs.Drafts.{number_in, Site, Draft, with_code, with_texts, with_literals, passed, site_at, site_after, preset_site, scope_of_site, piece_code_in, initial_code_in, preset_code_in, ArePresetsWritten, AreDrafted, StartsTo, IsDraft}
 use Rattle.stapl_codegen.specs.Accepted.{IsAccepted}
 use Rattle.stapl_codegen.specs.Correct.{Starts}
 use Rattle.stapl_code.proofs.Heads.{head_of, get_head}
@@ -134,14 +134,15 @@ starts_more program i start starts s e = record {
 module _ (program : Played) (i : ℕ) (d : Draft) (starts : List ℕ) (so_far : AreDrafted program i d starts) where
   pub piece_more : IsTyped program → (st : StmtTree) (is : drop i program.pieces ≡ st ∷ drop (i + 1) program.pieces) (o : Option Preset)
       (at_preset : drop i program.presets ≡ o ∷ drop (i + 1) program.presets)
-      (d' : Draft) (start : ℕ) (starts' : List ℕ) → d'.code ≡ d.code ++ piece_code_in d st → d'.texts ≡ d.texts ++ body_texts st.body →
-      d'.literals ≡ d.literals ++ (body_literals st.body ++ preset_items row_literals o) → d'.site ≡ site_after d.site st.body →
+      (d' : Draft) (start : ℕ) (starts' : List ℕ) →
+      d' ≡ passed (with_literals (with_texts (with_code d (piece_code_in d st)) (body_texts st.body)) (body_literals st.body ++ preset_items row_literals o)) st.body →
       start ≡ (if is_outer st.body then nowhere else length d.code) → starts' ≡ starts ++ start ∷ [] → AreDrafted program (i + 1) d' starts'
-  piece_more typed st is o at_preset d' start starts' code texts literals site at more = record {
-    code = code_more program i st is d.code d'.code _ so_far.code (code ∙ ap (λ l. d.code ++ l) (code_is program i st is typed d so_far.texts so_far.literals so_far.site));
-    texts = texts_more program i st is d.texts d'.texts so_far.texts texts;
-    literals = literals_after program i st is o at_preset d.literals d'.literals so_far.literals literals;
-    site = site_more program i st is d.site d'.site so_far.site site;
+  piece_more typed st is o at_preset d' start starts' after at more = record {
+    code = code_more program i st is d.code d'.code _ so_far.code
+        (ap (λ (d : Draft). d.code) after ∙ ap (λ l. d.code ++ l) (code_is program i st is typed d so_far.texts so_far.literals so_far.site));
+    texts = texts_more program i st is d.texts d'.texts so_far.texts (ap (λ (d : Draft). d.texts) after);
+    literals = literals_after program i st is o at_preset d.literals d'.literals so_far.literals (ap (λ (d : Draft). d.literals) after);
+    site = site_more program i st is d.site d'.site so_far.site (ap (λ (d : Draft). d.site) after);
     begins = subst (StartsTo program (i + 1)) (sym more) (starts_more program i start starts so_far.begins (start_more program i st is d.code start so_far.code at));
   }
 
@@ -229,31 +230,32 @@ module _ (program : Played) (i : ℕ) (o : Option Preset) (st : StmtTree) (prese
 -- a statement more, which has an initial value or none
 pub preset_more : (program : Played) (i : ℕ) (d d' : Draft) (before own number more beyond : ℕ) (o : Option Preset) (st : StmtTree) → drop i program.presets ≡ o ∷ drop (i + 1) program.presets →
     drop i program.pieces ≡ st ∷ drop (i + 1) program.pieces → Starts o → ArePresetsWritten program i d before → own ≡ length (body_literals st.body) →
-    more ≡ length (preset_items row_literals o) → number ≡ before + own → beyond ≡ number + more → d'.code ≡ d.code ++ preset_code_in d number o → d'.texts ≡ d.texts →
-    d'.literals ≡ d.literals → d'.site ≡ d.site →
+    more ≡ length (preset_items row_literals o) → number ≡ before + own → beyond ≡ number + more → d' ≡ with_code d (preset_code_in d number o) →
     ArePresetsWritten program (i + 1) d' beyond
-preset_more program i d d' before own number more beyond o st presets pieces starts so_far is next first last code texts literals site =
+preset_more program i d d' before own number more beyond o st presets pieces starts so_far is next first last after =
     let here : List Instr = preset_code program (λ j. j) i o [] in
     let others : List Instr = presets_code program (λ j. j) (i + 1) (drop (i + 1) program.presets) [] in
     record {
       code = ap (λ c. c ++ others)
-          (code ∙ ap (λ c. d.code ++ c) (preset_same program d.site i number o starts so_far.site (first ∙ own_counted program i o st presets pieces before own so_far.counted is) d refl))
+          (ap (λ (d : Draft). d.code) after
+          ∙ ap (λ c. d.code ++ c) (preset_same program d.site i number o starts so_far.site (first ∙ own_counted program i o st presets pieces before own so_far.counted is) d refl))
           ∙ append_assoc d.code here others
           ∙ ap (λ c. d.code ++ c) (sym (preset_before program (λ j. j) i o others) ∙ ap (λ l. presets_code program (λ j. j) i l []) (sym presets))
           ∙ so_far.code;
-      texts = texts ∙ so_far.texts;
-      no_literals = literals ∙ so_far.no_literals;
-      site = site ∙ so_far.site;
+      texts = ap (λ (d : Draft). d.texts) after ∙ so_far.texts;
+      no_literals = ap (λ (d : Draft). d.literals) after ∙ so_far.no_literals;
+      site = ap (λ (d : Draft). d.site) after ∙ so_far.site;
       counted = last ∙ ap (λ n. n + more) first ∙ next_counted program i o st presets pieces before own more so_far.counted is next;
     }
 
 -- nothing is written yet
-pub none_written : (program : Played) (d : Draft) → d.code ≡ [] → d.texts ≡ [] → d.literals ≡ [] → d.site ≡ site_at program 0 → ArePresetsWritten program 0 d 0
-none_written program d code texts literals site = record {
-  code = ap (λ c. c ++ presets_code program (λ j. j) 0 program.presets []) code;
-  texts = texts;
-  no_literals = literals;
-  site = site;
+pub none_written : (program : Played) (site : Site) (d : Draft) → d ≡ record { code = []; texts = []; literals = []; site = site } → site ≡ site_at program 0 →
+    ArePresetsWritten program 0 d 0
+none_written program site d is at = record {
+  code = ap (λ (d : Draft). d.code ++ presets_code program (λ j. j) 0 program.presets []) is;
+  texts = ap (λ (d : Draft). d.texts) is;
+  no_literals = ap (λ (d : Draft). d.literals) is;
+  site = ap (λ (d : Draft). d.site) is ∙ at;
   counted = refl;
 }
 

@@ -1,20 +1,17 @@
 -- Steps of what is written for a statement.
-use Rattle.std.proofs.Common.{◌≡◌, ℕ, suc, ◌<◌, Bool, true, false, List, [], ◌∷◌, ◌++◌, length, take, drop, arith, append_assoc, refl, sym, ap, ◌∙◌}
+use Rattle.std.proofs.Common.{◌≡◌, ℕ, suc, ◌<◌, Bool, false, List, [], ◌∷◌, ◌++◌, length, take, drop, arith, append_assoc, refl, sym, ap, ◌∙◌}
 use Rattle.std.specs.Prelude.{if◌then◌else◌}
 use Rattle.std.proofs.lemmas.List.{append-nil, take_all}
 use Rattle.stapl_syntax.specs.Trees.{ExprTree, ArrayTree, BodyTree, if_then, PartTree, string, value, character}
 use Rattle.stapl_meaning.specs.declared.values.ValueKind.TheVariants as kinds
 use Rattle.stapl_meaning.specs.Values.{Lookup}
-use Rattle.stapl_meaning.specs.Scopes.{has_initial_value}
-use Rattle.stapl_meaning.specs.Turns.{rows}
 use Rattle.stapl_meaning.specs.Operands.{a_range, array_operands, part_operands}
 use Rattle.stapl_code.specs.declared.instr.Source.{Source}
 use Rattle.stapl_code.specs.declared.instr.Instr.{Instr}
 use Rattle.stapl_code.specs.declared.instr.Instr.TheVariants.{Turn, JumpIfZero, CheckChar}
 use Rattle.stapl_code.specs.declared.instr.PrintPart.{PrintPart}
-use Rattle.stapl_codegen.specs.Emit.{operands_code, source_code, print_parts, part_texts, rows_items}
-use Rattle.stapl_codegen.specs.Drafts.{Draft, Site, scope_of_site, expr_code_in, operands_code_in, array_operands_in, source_in, part_operands_in, print_parts_in, body_code_in}
-use Rattle.stapl_codegen.proofs.Drafts.{one_row}
+use Rattle.stapl_codegen.specs.Emit.{array_literals, operands_code, print_parts, part_texts, body_texts, body_literals}
+use Rattle.stapl_codegen.specs.Drafts.{Draft, Site, scope_of_site, with_code, with_texts, with_literals, expr_code_in, operands_code_in, array_operands_in, source_in, part_operands_in, print_parts_in, body_code_in}
 use Rattle.stapl_codegen.proofs.Lists.{expr_append, expr_before, operands_before}
 
 -- what a draft was before a PRINT, what it is after some of its parts, and which parts are left
@@ -78,78 +75,68 @@ module _ (part : PartTree) (rest : List PartTree) where
         ∙ ap (λ l. list ++ l) (sym (printed_first look part d.texts d'.texts texts))
         ∙ so_far.printed
 
-    pub part_more : d'.code ≡ d.code ++ operands_code_in d (part_operands_in d (part ∷ [])) →
-        d'.texts ≡ d.texts ++ part_texts (part ∷ []) → d'.literals ≡ d.literals → d'.site ≡ d.site →
+    pub part_more : d' ≡ with_texts (with_code d (operands_code_in d (part_operands_in d (part ∷ [])))) (part_texts (part ∷ [])) →
         printed ∷ [] ≡ print_parts_in d (part ∷ []) → list' ≡ list ++ printed ∷ [] → AreWritten start all d' list' rest
-    part_more code texts literals site print more = record {
-      code = code_more code;
-      texts = texts_more texts;
-      literals = literals ∙ so_far.literals;
-      printed = list_more texts site print more;
-      site = site ∙ so_far.site;
-    }
+    part_more is print more =
+        let site : d'.site ≡ d.site = ap (λ (d : Draft). d.site) is in
+        let texts = ap (λ (d : Draft). d.texts) is in
+        record {
+          code = code_more (ap (λ (d : Draft). d.code) is);
+          texts = texts_more texts;
+          literals = ap (λ (d : Draft). d.literals) is ∙ so_far.literals;
+          printed = list_more texts site print more;
+          site = site ∙ so_far.site;
+        }
 
 -- a literal of fewer bits than an integer has
 pub short_literal : (bits : List Bool) (n : ℕ) → n ≡ length bits → n < 32 → take n (drop 0 bits) ≡ take 32 bits
 short_literal bits n is below = take_all n bits (omega (arith, is)) ∙ sym (take_all 32 bits (omega (arith, is, below)))
 
--- a statement has the code that it has in a draft that goes on in the same way
-same_body : (b : BodyTree) (start d : Draft) → d.texts ≡ start.texts → d.literals ≡ start.literals → d.site ≡ start.site → body_code_in d b ≡ body_code_in start b
-same_body b start d texts literals site =
-    ap (λ (s : Site). body_code_in (record { code = []; texts = d.texts; literals = d.literals; site = s }) b) site
-    ∙ ap (λ (t : List (List ℕ)). body_code_in (record { code = []; texts = t; literals = d.literals; site = start.site }) b) texts
-    ∙ ap (λ (l : List (List Bool)). body_code_in (record { code = []; texts = start.texts; literals = l; site = start.site }) b) literals
+-- a statement with its texts and literals
+abbrev written : Draft → BodyTree → List Instr → Draft
+written d b code = with_literals (with_texts (with_code d code) (body_texts b)) (body_literals b)
 
 -- the turn of a statement, and then what it does
-pub turn_written : (outer : Bool) (b : BodyTree) (start d done : Draft) → outer ≡ false →
-    d.code ≡ start.code ++ Turn start.site.piece ∷ [] → d.texts ≡ start.texts → d.literals ≡ start.literals → d.site ≡ start.site →
-    done.code ≡ d.code ++ body_code_in d b → done.code ≡ start.code ++ (if outer then [] else Turn start.site.piece ∷ body_code_in start b)
-turn_written outer b start d done inner code texts literals site more =
+pub turn_written : (outer : Bool) (b : BodyTree) (start d done : Draft) → outer ≡ false → d ≡ with_code start (Turn start.site.piece ∷ []) →
+    done ≡ with_literals (with_texts (with_code d (body_code_in d b)) (body_texts b)) (body_literals b) →
+    done ≡ with_literals (with_texts (with_code start (if outer then [] else Turn start.site.piece ∷ body_code_in start b)) (body_texts b)) (body_literals b)
+turn_written outer b start d done inner put more =
     more
-    ∙ ap (λ c. d.code ++ c) (same_body b start d texts literals site)
-    ∙ ap (λ c. c ++ body_code_in start b) code
-    ∙ append_assoc start.code (Turn start.site.piece ∷ []) (body_code_in start b)
-    ∙ ap (λ (o : Bool). start.code ++ (if o then [] else Turn start.site.piece ∷ body_code_in start b)) (sym inner)
+    ∙ ap (λ (d : Draft). written d b (body_code_in d b)) put
+    ∙ ap (λ c. with_literals (with_texts (record start { code = c }) (body_texts b)) (body_literals b)) (append_assoc start.code (Turn start.site.piece ∷ []) (body_code_in start b))
+    ∙ ap (λ (o : Bool). written start b (if o then [] else Turn start.site.piece ∷ body_code_in start b)) (sym inner)
 
 -- an IF, and then its inner statement
-pub if_written : (e : ExprTree) (b : BodyTree) (start d done : Draft) →
-    d.code ≡ start.code ++ (expr_code_in start kinds.Bit e ++ JumpIfZero start.site.piece ∷ []) → d.texts ≡ start.texts → d.literals ≡ start.literals → d.site ≡ start.site →
-    done.code ≡ d.code ++ body_code_in d b → done.code ≡ start.code ++ body_code_in start (if_then e b)
-if_written e b start d done code texts literals site more =
+pub if_written : (e : ExprTree) (b : BodyTree) (start d done : Draft) → d ≡ with_code start (expr_code_in start kinds.Bit e ++ JumpIfZero start.site.piece ∷ []) →
+    done ≡ with_literals (with_texts (with_code d (body_code_in d b)) (body_texts b)) (body_literals b) →
+    done ≡ with_literals (with_texts (with_code start (body_code_in start (if_then e b))) (body_texts b)) (body_literals b)
+if_written e b start d done tested more =
     let test : List Instr = expr_code_in start kinds.Bit e in
     let jump : List Instr = JumpIfZero start.site.piece ∷ [] in
     let inner : List Instr = body_code_in start b in
     more
-    ∙ ap (λ c. d.code ++ c) (same_body b start d texts literals site)
-    ∙ ap (λ c. c ++ inner) code
-    ∙ append_assoc start.code (test ++ jump) inner
-    ∙ ap (λ c. start.code ++ c) (append_assoc test jump inner ∙ sym (expr_before (scope_of_site start.site).look kinds.Bit e (jump ++ inner)))
+    ∙ ap (λ (d : Draft). written d b (body_code_in d b)) tested
+    ∙ ap (λ c. with_literals (with_texts (record start { code = c }) (body_texts b)) (body_literals b))
+    (append_assoc start.code (test ++ jump) inner
+    ∙ ap (λ c. start.code ++ c) (append_assoc test jump inner ∙ sym (expr_before (scope_of_site start.site).look kinds.Bit e (jump ++ inner))))
 
 -- the indexes of a range, the operands of an array, and the copy
-pub range_written : (n : ℕ) (high low : ExprTree) (a : ArrayTree) (i : Source → Instr) (start ranged placed : Draft) (source : Source) (code : List Instr) →
-    ranged.code ≡ start.code ++ operands_code_in start (a_range n high low) → ranged.literals ≡ start.literals → ranged.site ≡ start.site →
-    placed.code ≡ ranged.code ++ operands_code_in ranged (array_operands_in ranged a) → source ≡ source_in ranged a → code ≡ placed.code ++ i source ∷ [] →
-    code ≡ start.code ++ operands_code (scope_of_site start.site).look (a_range n high low ++ array_operands_in start a) (i (source_in start a) ∷ [])
-range_written n high low a i start ranged placed source code range literals site array from more =
+pub range_written : (n : ℕ) (high low : ExprTree) (a : ArrayTree) (i : Source → Instr) (start ranged placed done : Draft) (source : Source) →
+    ranged ≡ with_code start (operands_code_in start (a_range n high low)) →
+    placed ≡ with_literals (with_code ranged (operands_code_in ranged (array_operands_in ranged a))) (array_literals a) →
+    source ≡ source_in ranged a → done ≡ with_code placed (i source ∷ []) →
+    done ≡ with_literals (with_code start (operands_code (scope_of_site start.site).look (a_range n high low ++ array_operands_in start a) (i (source_in start a) ∷ []))) (array_literals a)
+range_written n high low a i start ranged placed done source range array from more =
     let look : Lookup = (scope_of_site start.site).look in
     let own : List Instr = operands_code look (a_range n high low) [] in
     let others : List Instr = operands_code look (array_operands look a) [] in
     let copy : List Instr = i (source_in start a) ∷ [] in
-    let same : source ≡ source_in start a =
-    from
-    ∙ ap (λ (s : Site). source_code (scope_of_site s).look (length ranged.literals) a) site
-    ∙ ap (λ (l : List (List Bool)). source_code look (length l) a) literals
-    in
     more
-    ∙ ap (λ (x : Source). placed.code ++ i x ∷ []) same
-    ∙ ap (λ c. c ++ copy) array
-    ∙ ap (λ (s : Site). (ranged.code ++ operands_code (scope_of_site s).look (array_operands (scope_of_site s).look a) []) ++ copy) site
-    ∙ ap (λ c. (c ++ others) ++ copy) range
-    ∙ append_assoc (start.code ++ own) others copy
+    ∙ ap (λ (s : Source). with_code placed (i s ∷ [])) from
+    ∙ ap (λ (d : Draft). with_code d (i (source_in ranged a) ∷ [])) array
+    ∙ ap (λ (d : Draft). with_code (with_literals (with_code d (operands_code_in d (array_operands_in d a))) (array_literals a)) (i (source_in d a) ∷ [])) range
+    ∙ ap (λ c. with_literals (record start { code = c }) (array_literals a))
+    (append_assoc (start.code ++ own) others copy
     ∙ append_assoc start.code own (others ++ copy)
     ∙ ap (λ c. start.code ++ (own ++ c)) (sym (operands_before look (array_operands look a) copy))
-    ∙ ap (λ c. start.code ++ c) (sym (operands_before look (a_range n high low) (operands_code look (array_operands look a) copy)))
-
--- what one row has is what its statement has
-pub one_row_items : {A : Type 0} (of : BodyTree → List A) (b : BodyTree) → has_initial_value b ≡ true → rows_items of (rows b) ≡ of b
-one_row_items of b starts = ap (rows_items of) (one_row b starts) ∙ append-nil (of b)
+    ∙ ap (λ c. start.code ++ c) (sym (operands_before look (a_range n high low) (operands_code look (array_operands look a) copy))))

@@ -37,3 +37,5 @@ pub mod Emits
 pub mod ScanEmits
 pub mod CodeBytes
 pub mod FileSizes
+pub mod SignedNumbers
+pub mod CodeNumbers

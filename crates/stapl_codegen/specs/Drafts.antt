@@ -64,6 +64,20 @@ site_at program i =
 abbrev pub site_after : Site → BodyTree → Site
 site_after site b = record site { inside = inside_next site.inside b; piece = site.piece + 1 }
 
+-- a draft with code, with texts and with literals more
+abbrev pub with_code : Draft → List Instr → Draft
+with_code d code = record d { code = d.code ++ code }
+
+abbrev pub with_texts : Draft → List (List ℕ) → Draft
+with_texts d texts = record d { texts = d.texts ++ texts }
+
+abbrev pub with_literals : Draft → List (List Bool) → Draft
+with_literals d literals = record d { literals = d.literals ++ literals }
+
+-- a draft after which the piece after this statement follows
+abbrev pub passed : Draft → BodyTree → Draft
+passed d b = record d { site = site_after d.site b }
+
 -- the numbers of the next text and of the next literal
 abbrev pub firsts_in : Draft → Firsts
 firsts_in d = record { text = length d.texts; literal = length d.literals }

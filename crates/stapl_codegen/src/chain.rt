@@ -1,9 +1,9 @@
 //! The instructions of statements that move the chain, wait on it, or state its frequency.
-ghost use Rattle.std.specs.Prelude.{◌≡◌, [], ◌∷◌, ◌++◌, map, option_map, is_some, OnOk, IfOk};
+ghost use Rattle.std.specs.Prelude.{◌≡◌, map, option_map, is_some, OnOk, IfOk};
 ghost use Rattle.std.specs.Box.{box_value};
 ghost use Rattle.stapl_syntax.specs.Trees.{ExprTree, state_list, wait_cycles, wait_usec, frequency, expr_tree};
 ghost use Rattle.stapl_meaning.specs.Turns.{tap_of, tap_or_idle, kind_of_wait, integer_given};
-ghost use Rattle.stapl_codegen.specs.Drafts.{operands_code_in, body_code_in};
+ghost use Rattle.stapl_codegen.specs.Drafts.{with_code, operands_code_in, body_code_in};
 
 use crate::emit::Emitter;
 use base::ItemList;
@@ -69,11 +69,8 @@ fn is_given(e: &Option<Box<Expr>>) -> bool
 impl<'a> Emitter<'a> {
     // An integer that may be left out more.
     fn given(&mut self, e: &Option<Box<Expr>>) -> Result<(), AllocError>
-        ensures code { OnOk result (self.new.code ≡ self.old.code ++ operands_code_in self.old
-            (integer_given (option_map (λ e. expr_tree (box_value e)) e.now))) }
-        ensures texts { self.new.texts ≡ self.old.texts }
-        ensures literals { self.new.literals ≡ self.old.literals }
-        ensures site { self.new.site ≡ self.old.site }
+        ensures { OnOk result (self.new ≡ with_code self.old (operands_code_in self.old
+            (integer_given (option_map (λ e. expr_tree (box_value e)) e.now)))) }
     {
         match e {
             Some(e) => self.expr(ValueKind::Int, e),
@@ -83,10 +80,7 @@ impl<'a> Emitter<'a> {
 
     /// A STATE more.
     pub(crate) fn state(&mut self, numbers: &[u8]) -> Result<(), AllocError>
-        ensures code { OnOk result (self.new.code ≡ self.old.code ++ body_code_in self.old (state_list numbers.now)) }
-        ensures texts { self.new.texts ≡ self.old.texts }
-        ensures literals { self.new.literals ≡ self.old.literals }
-        ensures site { self.new.site ≡ self.old.site }
+        ensures { OnOk result (self.new ≡ with_code self.old (body_code_in self.old (state_list numbers.now))) }
     {
         let list = taps(self.alloc, numbers)?;
         self.put(Instr::State(ItemList::of(list)))?;
@@ -102,11 +96,8 @@ impl<'a> Emitter<'a> {
         usec: &Option<Box<Expr>>,
         last: Option<u8>,
     ) -> Result<(), AllocError>
-        ensures code { OnOk result (self.new.code ≡ self.old.code ++ body_code_in self.old (wait_cycles state
-            (expr_tree cycles.now) (option_map (λ e. expr_tree (box_value e)) usec.now) last)) }
-        ensures texts { self.new.texts ≡ self.old.texts }
-        ensures literals { self.new.literals ≡ self.old.literals }
-        ensures site { self.new.site ≡ self.old.site }
+        ensures { OnOk result (self.new ≡ with_code self.old (body_code_in self.old
+            (wait_cycles state (expr_tree cycles.now) (option_map (λ e. expr_tree (box_value e)) usec.now) last))) }
     {
         self.expr(ValueKind::Int, cycles)?;
         self.given(usec)?;
@@ -122,11 +113,8 @@ impl<'a> Emitter<'a> {
         usec: &Expr,
         last: Option<u8>,
     ) -> Result<(), AllocError>
-        ensures code { OnOk result
-            (self.new.code ≡ self.old.code ++ body_code_in self.old (wait_usec state (expr_tree usec.now) last)) }
-        ensures texts { self.new.texts ≡ self.old.texts }
-        ensures literals { self.new.literals ≡ self.old.literals }
-        ensures site { self.new.site ≡ self.old.site }
+        ensures { OnOk result (self.new ≡
+            with_code self.old (body_code_in self.old (wait_usec state (expr_tree usec.now) last))) }
     {
         self.expr(ValueKind::Int, usec)?;
         self.put(Instr::Wait(tap_or_idle(state), WaitKind::Usec, tap_or_idle(last)))?;
@@ -136,11 +124,8 @@ impl<'a> Emitter<'a> {
     /// A FREQUENCY more.
     #[tactic(auto, using(crate::proofs::Lists::operands_before, std::proofs::Common::append_assoc))]
     pub(crate) fn frequency(&mut self, hertz: &Option<Box<Expr>>) -> Result<(), AllocError>
-        ensures code { OnOk result (self.new.code ≡ self.old.code
-            ++ body_code_in self.old (frequency (option_map (λ e. expr_tree (box_value e)) hertz.now))) }
-        ensures texts { self.new.texts ≡ self.old.texts }
-        ensures literals { self.new.literals ≡ self.old.literals }
-        ensures site { self.new.site ≡ self.old.site }
+        ensures { OnOk result (self.new ≡ with_code self.old (body_code_in self.old
+            (frequency (option_map (λ e. expr_tree (box_value e)) hertz.now)))) }
     {
         self.given(hertz)?;
         self.put(Instr::Frequency(is_given(hertz)))?;

@@ -5,7 +5,7 @@ ghost use Rattle.stapl_syntax.specs.Statements.{is_outer};
 ghost use Rattle.stapl_meaning.specs.Scopes.{idle, plays, preset_of, program_names, as_played};
 ghost use Rattle.stapl_code.specs.Machine.{nowhere};
 ghost use Rattle.stapl_codegen.specs.Emit.{row_literals, preset_items, body_texts, body_literals, texts_of, literals_of, program_code, start_of, retarget};
-ghost use Rattle.stapl_codegen.specs.Drafts.{site_after, piece_code_in, preset_code_in, ArePresetsWritten, AreDrafted, AreStarts, IsDraft};
+ghost use Rattle.stapl_codegen.specs.Drafts.{with_code, with_texts, with_literals, passed, piece_code_in, preset_code_in, ArePresetsWritten, AreDrafted, AreStarts, IsDraft};
 ghost use Rattle.stapl_codegen.specs.Accepted.{IsAccepted};
 ghost use Rattle.stapl_codegen.specs.Numbers.{numbers_from};
 
@@ -42,11 +42,8 @@ fn start_at(before: usize, playing: bool, st: &Stmt) -> u32
 
 // Keeps the literal of the initial value of a statement, if it stands in a DATA block and has one.
 fn keep_preset(emitter: &mut Emitter, block: &Option<Name>, body: &Body) -> Result<(), AllocError>
-    ensures code { emitter.new.code ≡ emitter.old.code }
-    ensures texts { emitter.new.texts ≡ emitter.old.texts }
-    ensures literals { OnOk result (emitter.new.literals
-        ≡ emitter.old.literals ++ preset_items row_literals (preset_of block.now (body_tree body.now))) }
-    ensures site { emitter.new.site ≡ emitter.old.site }
+    ensures { OnOk result (emitter.new ≡
+        with_literals emitter.old (preset_items row_literals (preset_of block.now (body_tree body.now)))) }
 {
     if block.is_none() || !has_initial_value(body) {
         return Ok(());
@@ -64,15 +61,13 @@ fn draft_piece(
 ) -> Result<(), AllocError>
     requires piece { emitter.old.site.piece < 2 ^ 32 - 1 }
     requires playing { playing ≡ plays block.now (body_tree st.now.body) }
-    ensures code { OnOk result (emitter.new.code
-        ≡ emitter.old.code ++ piece_code_in emitter.old (if playing then stmt_tree st.now else idle)) }
-    ensures texts { OnOk result (emitter.new.texts
-        ≡ emitter.old.texts ++ body_texts (if playing then stmt_tree st.now else idle).body) }
-    ensures literals { OnOk result (emitter.new.literals
-        ≡ emitter.old.literals ++ (body_literals (if playing then stmt_tree st.now else idle).body
-        ++ preset_items row_literals (preset_of block.now (body_tree st.now.body)))) }
-    ensures site { OnOk result (emitter.new.site
-        ≡ site_after emitter.old.site (if playing then stmt_tree st.now else idle).body) }
+    ensures { OnOk result (emitter.new ≡ passed
+        (with_literals (with_texts (with_code emitter.old
+        (piece_code_in emitter.old (if playing then stmt_tree st.now else idle)))
+        (body_texts (if playing then stmt_tree st.now else idle).body))
+        (body_literals (if playing then stmt_tree st.now else idle).body
+        ++ preset_items row_literals (preset_of block.now (body_tree st.now.body))))
+        (if playing then stmt_tree st.now else idle).body) }
 {
     if playing {
         emitter.statement(st)?;
@@ -91,11 +86,8 @@ fn draft_preset(
     literals: usize,
 ) -> Result<(), AllocError>
     requires { emitter.old.site.inside ≡ None }
-    ensures code { OnOk result (emitter.new.code
-        ≡ emitter.old.code ++ preset_code_in emitter.old literals (preset_of block.now (body_tree body.now))) }
-    ensures texts { emitter.new.texts ≡ emitter.old.texts }
-    ensures literals { emitter.new.literals ≡ emitter.old.literals }
-    ensures site { OnOk result (emitter.new.site ≡ emitter.old.site) }
+    ensures { OnOk result (emitter.new ≡
+        with_code emitter.old (preset_code_in emitter.old literals (preset_of block.now (body_tree body.now)))) }
 {
     let Some(name) = block else {
         return Ok(());

@@ -6,7 +6,7 @@ ghost use Rattle.stapl_meaning.specs.Operands.{a_character, an_index, a_range};
 ghost use Rattle.stapl_code.specs.declared.instr.Instr.TheVariants.{Store, SetBits, SetInts, JumpIfZero};
 ghost use Rattle.stapl_codegen.specs.Emit.{part_texts, array_literals, row_texts, row_literals, body_texts, body_literals};
 ghost use Rattle.stapl_meaning.specs.Scopes.{has_initial_value};
-ghost use Rattle.stapl_codegen.specs.Drafts.{scope_of_site, site_after};
+ghost use Rattle.stapl_codegen.specs.Drafts.{scope_of_site, with_code, with_texts, with_literals, passed};
 ghost use Rattle.stapl_codegen.specs.Drafts.{expr_code_in, int_code_in, operands_code_in, array_operands_in, source_in, part_operands_in, print_parts_in, body_code_in, piece_code_in, initial_code_in, preset_code_in};
 
 use crate::definitions::Numbers;
@@ -70,15 +70,17 @@ impl<'a> VariableKinds for Emitter<'a> {
 impl<'a> Emitter<'a> {
     /// Nothing is written yet, and the first of so many pieces follows.
     pub(crate) fn new(alloc: Global, numbers: &'a Numbers<'a>, count: u32) -> Emitter<'a>
-        ensures code { result.code ≡ [] }
-        ensures texts { result.texts ≡ [] }
-        ensures literals { result.literals ≡ [] }
-        ensures site { result.site ≡ record {
-          names = numbers.now.names.now;
-          next = numbers.now.next.items;
-          count = count;
-          inside = None;
-          piece = 1;
+        ensures { result ≡ record {
+          code = [];
+          texts = [];
+          literals = [];
+          site = record {
+            names = numbers.now.names.now;
+            next = numbers.now.next.items;
+            count = count;
+            inside = None;
+            piece = 1;
+          };
         } }
     {
         Emitter {
@@ -140,10 +142,7 @@ impl<'a> Emitter<'a> {
 
     /// An instruction more.
     pub(crate) fn put(&mut self, instr: Instr) -> Result<(), AllocError>
-        ensures code { OnOk result (self.new.code ≡ self.old.code ++ instr ∷ []) }
-        ensures texts { self.new.texts ≡ self.old.texts }
-        ensures literals { self.new.literals ≡ self.old.literals }
-        ensures site { self.new.site ≡ self.old.site }
+        ensures { OnOk result (self.new ≡ with_code self.old (instr ∷ [])) }
     {
         self.code.push(instr)?;
         Ok(())
@@ -153,10 +152,7 @@ impl<'a> Emitter<'a> {
     #[cycle(expressions)]
     #[tactic(auto, using(crate::proofs::Lists::expr_before, std::proofs::Common::append_assoc))]
     pub(crate) fn expr(&mut self, kind: ValueKind, e: &Expr) -> Result<(), AllocError>
-        ensures code { OnOk result (self.new.code ≡ self.old.code ++ expr_code_in self.old kind (expr_tree e.now)) }
-        ensures texts { self.new.texts ≡ self.old.texts }
-        ensures literals { self.new.literals ≡ self.old.literals }
-        ensures site { self.new.site ≡ self.old.site }
+        ensures { OnOk result (self.new ≡ with_code self.old (expr_code_in self.old kind (expr_tree e.now))) }
     {
         match e {
             Expr::Number(n) => self.put(literal(kind, *n)),
@@ -195,10 +191,7 @@ impl<'a> Emitter<'a> {
     #[cycle(expressions)]
     #[tactic(auto, using(crate::proofs::Lists::expr_before, std::proofs::Common::append_assoc))]
     fn integer(&mut self, a: &ArrayExpr) -> Result<(), AllocError>
-        ensures code { OnOk result (self.new.code ≡ self.old.code ++ int_code_in self.old (array_tree a.now)) }
-        ensures texts { self.new.texts ≡ self.old.texts }
-        ensures literals { self.new.literals ≡ self.old.literals }
-        ensures site { self.new.site ≡ self.old.site }
+        ensures { OnOk result (self.new ≡ with_code self.old (int_code_in self.old (array_tree a.now))) }
     {
         match a {
             ArrayExpr::Literal(bits) => self.put(Instr::Push(literal_integer(bits))),
@@ -224,11 +217,8 @@ impl<'a> Emitter<'a> {
     // The number of a character more, with its test.
     #[tactic(auto, using(crate::proofs::Lists::expr_before, std::proofs::Common::append_assoc))]
     fn character(&mut self, e: &Expr) -> Result<(), AllocError>
-        ensures code { OnOk result
-            (self.new.code ≡ self.old.code ++ operands_code_in self.old (a_character (expr_tree e.now) ∷ [])) }
-        ensures texts { self.new.texts ≡ self.old.texts }
-        ensures literals { self.new.literals ≡ self.old.literals }
-        ensures site { self.new.site ≡ self.old.site }
+        ensures { OnOk result (self.new ≡
+            with_code self.old (operands_code_in self.old (a_character (expr_tree e.now) ∷ []))) }
     {
         self.expr(ValueKind::Int, e)?;
         self.put(Instr::CheckChar)?;
@@ -237,11 +227,8 @@ impl<'a> Emitter<'a> {
 
     /// A text more, and its number.
     pub(crate) fn text(&mut self, bytes: &[u8]) -> Result<u32, AllocError>
+        ensures drafted { OnOk result (self.new ≡ with_texts self.old (bytes.now ∷ [])) }
         ensures number { IfOk result (λ number. number ≡ length self.old.texts) }
-        ensures code { self.new.code ≡ self.old.code }
-        ensures texts { OnOk result (self.new.texts ≡ self.old.texts ++ bytes.now ∷ []) }
-        ensures literals { self.new.literals ≡ self.old.literals }
-        ensures site { self.new.site ≡ self.old.site }
     {
         let number = u32::try_from(self.texts.len()).map_err(|_| AllocError)?;
         let copy = Vec::from_slice(self.alloc, bytes)?;
@@ -251,13 +238,11 @@ impl<'a> Emitter<'a> {
 
     // A part of a PRINT more: its operand and its text, and what it prints.
     fn part(&mut self, part: &PrintPart) -> Result<stapl_code::PrintPart, AllocError>
-        ensures code { OnOk result
-            (self.new.code ≡ self.old.code ++ operands_code_in self.old (part_operands_in self.old (part_tree part.now ∷ []))) }
-        ensures texts { OnOk result (self.new.texts ≡ self.old.texts ++ part_texts (part_tree part.now ∷ [])) }
-        ensures literals { self.new.literals ≡ self.old.literals }
+        ensures drafted { OnOk result (self.new ≡ with_texts (with_code self.old
+            (operands_code_in self.old (part_operands_in self.old (part_tree part.now ∷ []))))
+            (part_texts (part_tree part.now ∷ []))) }
         ensures printed { IfOk result
             (λ printed. printed ∷ [] ≡ print_parts_in self.old (part_tree part.now ∷ [])) }
-        ensures site { self.new.site ≡ self.old.site }
     {
         match part {
             PrintPart::Text(bytes) => {
@@ -278,13 +263,11 @@ impl<'a> Emitter<'a> {
 
     // The parts of a PRINT more: their operands and texts, and what they print.
     fn parts(&mut self, parts: &[PrintPart]) -> Result<Vec<stapl_code::PrintPart>, AllocError>
-        ensures code { OnOk result
-            (self.new.code ≡ self.old.code ++ operands_code_in self.old (part_operands_in self.old (map part_tree parts.now))) }
-        ensures texts { OnOk result (self.new.texts ≡ self.old.texts ++ part_texts (map part_tree parts.now)) }
-        ensures literals { self.new.literals ≡ self.old.literals }
+        ensures drafted { OnOk result (self.new ≡ with_texts (with_code self.old
+            (operands_code_in self.old (part_operands_in self.old (map part_tree parts.now))))
+            (part_texts (map part_tree parts.now))) }
         ensures printed { IfOk result
             (λ list. list.items ≡ print_parts_in self.old (map part_tree parts.now)) }
-        ensures site { self.new.site ≡ self.old.site }
     {
         let mut list = Vec::new(self.alloc);
         for part in parts {
@@ -296,11 +279,8 @@ impl<'a> Emitter<'a> {
     // A PRINT more.
     #[tactic(auto, using(crate::proofs::Lists::operands_before, std::proofs::Common::append_assoc))]
     fn print(&mut self, parts: &[PrintPart]) -> Result<(), AllocError>
-        ensures code { OnOk result
-            (self.new.code ≡ self.old.code ++ body_code_in self.old (print (map part_tree parts.now))) }
-        ensures texts { OnOk result (self.new.texts ≡ self.old.texts ++ part_texts (map part_tree parts.now)) }
-        ensures literals { self.new.literals ≡ self.old.literals }
-        ensures site { self.new.site ≡ self.old.site }
+        ensures { OnOk result (self.new ≡ with_texts (with_code self.old
+            (body_code_in self.old (print (map part_tree parts.now)))) (part_texts (map part_tree parts.now))) }
     {
         let list = self.parts(parts)?;
         self.put(Instr::Print(ItemList::of(list)))?;
@@ -310,11 +290,8 @@ impl<'a> Emitter<'a> {
     // The condition of an IF more, and the jump after the piece.
     #[tactic(auto, using(crate::proofs::Lists::expr_before, std::proofs::Common::append_assoc))]
     fn condition(&mut self, e: &Expr) -> Result<(), AllocError>
-        ensures code { OnOk result (self.new.code ≡ self.old.code
-            ++ (expr_code_in self.old ValueKind.Bit (expr_tree e.now) ++ JumpIfZero self.old.site.piece ∷ [])) }
-        ensures texts { self.new.texts ≡ self.old.texts }
-        ensures literals { self.new.literals ≡ self.old.literals }
-        ensures site { self.new.site ≡ self.old.site }
+        ensures { OnOk result (self.new ≡ with_code self.old
+            (expr_code_in self.old ValueKind.Bit (expr_tree e.now) ++ JumpIfZero self.old.site.piece ∷ [])) }
     {
         let follow = self.piece;
         self.expr(ValueKind::Bit, e)?;
@@ -324,11 +301,8 @@ impl<'a> Emitter<'a> {
 
     // A literal more, and its number.
     fn literal(&mut self, bits: &Bits) -> Result<u32, AllocError>
+        ensures drafted { OnOk result (self.new ≡ with_literals self.old (bits.now ∷ [])) }
         ensures number { IfOk result (λ number. number ≡ length self.old.literals) }
-        ensures code { self.new.code ≡ self.old.code }
-        ensures texts { self.new.texts ≡ self.old.texts }
-        ensures literals { OnOk result (self.new.literals ≡ self.old.literals ++ bits.now ∷ []) }
-        ensures site { self.new.site ≡ self.old.site }
     {
         let number = u32::try_from(self.literals.len()).map_err(|_| AllocError)?;
         let copy = bits.copied(self.alloc)?;
@@ -339,11 +313,8 @@ impl<'a> Emitter<'a> {
     /// The index of an array more, with its test.
     #[tactic(auto, using(crate::proofs::Lists::expr_before, std::proofs::Common::append_assoc))]
     pub(crate) fn index(&mut self, number: u32, index: &Expr) -> Result<(), AllocError>
-        ensures code { OnOk result (self.new.code ≡ self.old.code
-            ++ operands_code_in self.old (an_index number (expr_tree index.now) ∷ [])) }
-        ensures texts { self.new.texts ≡ self.old.texts }
-        ensures literals { self.new.literals ≡ self.old.literals }
-        ensures site { self.new.site ≡ self.old.site }
+        ensures { OnOk result (self.new ≡
+            with_code self.old (operands_code_in self.old (an_index number (expr_tree index.now) ∷ []))) }
     {
         self.expr(ValueKind::Int, index)?;
         self.put(Instr::CheckIndex(number))?;
@@ -353,11 +324,8 @@ impl<'a> Emitter<'a> {
     /// The indexes of a range of an array more, with their test.
     #[tactic(auto, using(crate::proofs::Lists::expr_before, std::proofs::Common::append_assoc))]
     pub(crate) fn range(&mut self, number: u32, high: &Expr, low: &Expr) -> Result<(), AllocError>
-        ensures code { OnOk result (self.new.code ≡ self.old.code
-            ++ operands_code_in self.old (a_range number (expr_tree high.now) (expr_tree low.now))) }
-        ensures texts { self.new.texts ≡ self.old.texts }
-        ensures literals { self.new.literals ≡ self.old.literals }
-        ensures site { self.new.site ≡ self.old.site }
+        ensures { OnOk result (self.new ≡
+            with_code self.old (operands_code_in self.old (a_range number (expr_tree high.now) (expr_tree low.now)))) }
     {
         self.expr(ValueKind::Int, high)?;
         self.expr(ValueKind::Int, low)?;
@@ -367,11 +335,9 @@ impl<'a> Emitter<'a> {
 
     /// The operands of an array more, and where its bits come from.
     pub(crate) fn source(&mut self, a: &ArrayExpr) -> Result<Source, AllocError>
-        ensures code { OnOk result
-            (self.new.code ≡ self.old.code ++ operands_code_in self.old (array_operands_in self.old (array_tree a.now))) }
-        ensures texts { self.new.texts ≡ self.old.texts }
-        ensures literals { OnOk result (self.new.literals ≡ self.old.literals ++ array_literals (array_tree a.now)) }
-        ensures site { self.new.site ≡ self.old.site }
+        ensures drafted { OnOk result (self.new ≡ with_literals (with_code self.old
+            (operands_code_in self.old (array_operands_in self.old (array_tree a.now))))
+            (array_literals (array_tree a.now))) }
         ensures source { IfOk result (λ source. source ≡ source_in self.old (array_tree a.now)) }
     {
         match a {
@@ -394,11 +360,8 @@ impl<'a> Emitter<'a> {
 
     // An initial value of a scalar more.
     fn start_scalar(&mut self, name: &Name, value: Instr) -> Result<(), AllocError>
-        ensures code { OnOk result (self.new.code
-            ≡ self.old.code ++ value ∷ Store ((scope_of_site self.old.site).look.variable name.now) ∷ []) }
-        ensures texts { self.new.texts ≡ self.old.texts }
-        ensures literals { self.new.literals ≡ self.old.literals }
-        ensures site { self.new.site ≡ self.old.site }
+        ensures { OnOk result (self.new ≡
+            with_code self.old (value ∷ Store ((scope_of_site self.old.site).look.variable name.now) ∷ [])) }
     {
         let number = self.variable(name);
         self.put(value)?;
@@ -408,11 +371,8 @@ impl<'a> Emitter<'a> {
 
     // The bits of an array more, which are set to the literal of a number.
     fn set_bits(&mut self, name: &Name, literal: u32) -> Result<(), AllocError>
-        ensures code { OnOk result (self.new.code
-            ≡ self.old.code ++ SetBits ((scope_of_site self.old.site).look.variable name.now) literal ∷ []) }
-        ensures texts { self.new.texts ≡ self.old.texts }
-        ensures literals { self.new.literals ≡ self.old.literals }
-        ensures site { self.new.site ≡ self.old.site }
+        ensures { OnOk result (self.new ≡
+            with_code self.old (SetBits ((scope_of_site self.old.site).look.variable name.now) literal ∷ [])) }
     {
         let number = self.variable(name);
         self.put(Instr::SetBits(number, literal))
@@ -420,11 +380,9 @@ impl<'a> Emitter<'a> {
 
     // The initial bits of an array more.
     fn start_bits(&mut self, name: &Name, bits: &Bits) -> Result<(), AllocError>
-        ensures code { OnOk result (self.new.code ≡ self.old.code
-            ++ SetBits ((scope_of_site self.old.site).look.variable name.now) (length self.old.literals) ∷ []) }
-        ensures texts { self.new.texts ≡ self.old.texts }
-        ensures literals { OnOk result (self.new.literals ≡ self.old.literals ++ bits.now ∷ []) }
-        ensures site { self.new.site ≡ self.old.site }
+        ensures { OnOk result (self.new ≡ with_literals (with_code self.old
+            (SetBits ((scope_of_site self.old.site).look.variable name.now) (length self.old.literals) ∷ []))
+            (bits.now ∷ [])) }
     {
         let literal = self.literal(bits)?;
         self.set_bits(name, literal)?;
@@ -433,11 +391,8 @@ impl<'a> Emitter<'a> {
 
     // The initial integers of an array more.
     fn start_integers(&mut self, name: &Name, values: &[i32]) -> Result<(), AllocError>
-        ensures code { OnOk result (self.new.code
-            ≡ self.old.code ++ SetInts ((scope_of_site self.old.site).look.variable name.now) values.now ∷ []) }
-        ensures texts { self.new.texts ≡ self.old.texts }
-        ensures literals { self.new.literals ≡ self.old.literals }
-        ensures site { self.new.site ≡ self.old.site }
+        ensures { OnOk result (self.new ≡
+            with_code self.old (SetInts ((scope_of_site self.old.site).look.variable name.now) values.now ∷ [])) }
     {
         let number = self.variable(name);
         let copy = Vec::from_slice(self.alloc, values)?;
@@ -448,11 +403,8 @@ impl<'a> Emitter<'a> {
     // An assignment to a scalar more.
     #[tactic(auto, using(crate::proofs::Lists::expr_before, std::proofs::Common::append_assoc))]
     fn assign(&mut self, name: &Name, value: &Expr) -> Result<(), AllocError>
-        ensures code { OnOk result (self.new.code
-            ≡ self.old.code ++ body_code_in self.old (assign name.now (expr_tree value.now))) }
-        ensures texts { self.new.texts ≡ self.old.texts }
-        ensures literals { self.new.literals ≡ self.old.literals }
-        ensures site { self.new.site ≡ self.old.site }
+        ensures { OnOk result (self.new ≡
+            with_code self.old (body_code_in self.old (assign name.now (expr_tree value.now)))) }
     {
         let kind = given_kind(self.kind(name));
         let number = self.variable(name);
@@ -464,11 +416,7 @@ impl<'a> Emitter<'a> {
     // An EXIT more.
     #[tactic(auto, using(crate::proofs::Lists::expr_before, std::proofs::Common::append_assoc))]
     fn exit(&mut self, e: &Expr) -> Result<(), AllocError>
-        ensures code { OnOk result (self.new.code
-            ≡ self.old.code ++ body_code_in self.old (exit (expr_tree e.now))) }
-        ensures texts { self.new.texts ≡ self.old.texts }
-        ensures literals { self.new.literals ≡ self.old.literals }
-        ensures site { self.new.site ≡ self.old.site }
+        ensures { OnOk result (self.new ≡ with_code self.old (body_code_in self.old (exit (expr_tree e.now)))) }
     {
         self.expr(ValueKind::Int, e)?;
         self.put(Instr::Exit)?;
@@ -478,11 +426,8 @@ impl<'a> Emitter<'a> {
     // An assignment to an element more.
     #[tactic(auto, using(crate::proofs::Lists::expr_before, std::proofs::Common::append_assoc))]
     fn assign_element(&mut self, name: &Name, index: &Expr, value: &Expr) -> Result<(), AllocError>
-        ensures code { OnOk result (self.new.code ≡ self.old.code
-            ++ body_code_in self.old (assign_element name.now (expr_tree index.now) (expr_tree value.now))) }
-        ensures texts { self.new.texts ≡ self.old.texts }
-        ensures literals { self.new.literals ≡ self.old.literals }
-        ensures site { self.new.site ≡ self.old.site }
+        ensures { OnOk result (self.new ≡ with_code self.old (body_code_in self.old
+            (assign_element name.now (expr_tree index.now) (expr_tree value.now)))) }
     {
         let kind = given_kind(self.kind(name));
         let number = self.variable(name);
@@ -495,11 +440,8 @@ impl<'a> Emitter<'a> {
     // An assignment to a whole array more.
     #[tactic(auto, using(crate::proofs::Lists::operands_before, std::proofs::Common::append_assoc))]
     fn assign_array(&mut self, name: &Name, a: &ArrayExpr) -> Result<(), AllocError>
-        ensures code { OnOk result (self.new.code
-            ≡ self.old.code ++ body_code_in self.old (assign_array name.now (array_tree a.now))) }
-        ensures texts { self.new.texts ≡ self.old.texts }
-        ensures literals { OnOk result (self.new.literals ≡ self.old.literals ++ array_literals (array_tree a.now)) }
-        ensures site { self.new.site ≡ self.old.site }
+        ensures { OnOk result (self.new ≡ with_literals (with_code self.old
+            (body_code_in self.old (assign_array name.now (array_tree a.now)))) (array_literals (array_tree a.now))) }
     {
         let number = self.variable(name);
         let source = self.source(a)?;
@@ -515,11 +457,9 @@ impl<'a> Emitter<'a> {
         low: &Expr,
         a: &ArrayExpr,
     ) -> Result<(), AllocError>
-        ensures code { OnOk result (self.new.code ≡ self.old.code ++ body_code_in self.old
-            (assign_range name.now (expr_tree high.now) (expr_tree low.now) (array_tree a.now))) }
-        ensures texts { self.new.texts ≡ self.old.texts }
-        ensures literals { OnOk result (self.new.literals ≡ self.old.literals ++ array_literals (array_tree a.now)) }
-        ensures site { self.new.site ≡ self.old.site }
+        ensures { OnOk result (self.new ≡ with_literals (with_code self.old
+            (body_code_in self.old (assign_range name.now (expr_tree high.now) (expr_tree low.now) (array_tree a.now))))
+            (array_literals (array_tree a.now))) }
     {
         let number = self.variable(name);
         self.range(number, high, low)?;
@@ -530,10 +470,9 @@ impl<'a> Emitter<'a> {
 
     // A statement more.
     fn body(&mut self, b: &Body) -> Result<(), AllocError>
-        ensures code { OnOk result (self.new.code ≡ self.old.code ++ body_code_in self.old (body_tree b.now)) }
-        ensures texts { OnOk result (self.new.texts ≡ self.old.texts ++ body_texts (body_tree b.now)) }
-        ensures literals { OnOk result (self.new.literals ≡ self.old.literals ++ body_literals (body_tree b.now)) }
-        ensures site { self.new.site ≡ self.old.site }
+        ensures { OnOk result (self.new ≡ with_literals (with_texts (with_code self.old
+            (body_code_in self.old (body_tree b.now))) (body_texts (body_tree b.now)))
+            (body_literals (body_tree b.now))) }
     {
         match b {
             Body::Boolean(_, None)
@@ -592,10 +531,9 @@ impl<'a> Emitter<'a> {
 
     // The turn of a statement more, and what it does; a statement outside procedures has no code.
     fn turn(&mut self, st: &Stmt) -> Result<(), AllocError>
-        ensures code { OnOk result (self.new.code ≡ self.old.code ++ piece_code_in self.old (stmt_tree st.now)) }
-        ensures texts { OnOk result (self.new.texts ≡ self.old.texts ++ body_texts (body_tree st.now.body)) }
-        ensures literals { OnOk result (self.new.literals ≡ self.old.literals ++ body_literals (body_tree st.now.body)) }
-        ensures site { self.new.site ≡ self.old.site }
+        ensures { OnOk result (self.new ≡ with_literals (with_texts (with_code self.old
+            (piece_code_in self.old (stmt_tree st.now))) (body_texts (body_tree st.now.body)))
+            (body_literals (body_tree st.now.body))) }
     {
         if st.body.is_outer() {
             return Ok(());
@@ -609,10 +547,9 @@ impl<'a> Emitter<'a> {
     /// A statement of the program more, after which the next piece follows.
     pub(crate) fn statement(&mut self, st: &Stmt) -> Result<(), AllocError>
         requires { self.old.site.piece < 2 ^ 32 - 1 }
-        ensures code { OnOk result (self.new.code ≡ self.old.code ++ piece_code_in self.old (stmt_tree st.now)) }
-        ensures texts { OnOk result (self.new.texts ≡ self.old.texts ++ body_texts (body_tree st.now.body)) }
-        ensures literals { OnOk result (self.new.literals ≡ self.old.literals ++ body_literals (body_tree st.now.body)) }
-        ensures site { OnOk result (self.new.site ≡ site_after self.old.site (body_tree st.now.body)) }
+        ensures { OnOk result (self.new ≡ passed
+            (with_literals (with_texts (with_code self.old (piece_code_in self.old (stmt_tree st.now)))
+            (body_texts (body_tree st.now.body))) (body_literals (body_tree st.now.body))) (body_tree st.now.body)) }
     {
         self.turn(st)?;
         self.inside = inside_next(&self.inside, &st.body);
@@ -623,10 +560,7 @@ impl<'a> Emitter<'a> {
     /// A piece that does nothing, after which the next piece follows.
     pub(crate) fn skip(&mut self)
         requires { self.old.site.piece < 2 ^ 32 - 1 }
-        ensures code { self.new.code ≡ self.old.code }
-        ensures texts { self.new.texts ≡ self.old.texts }
-        ensures literals { self.new.literals ≡ self.old.literals }
-        ensures site { self.new.site ≡ site_after self.old.site end_data }
+        ensures { self.new ≡ passed self.old end_data }
     {
         self.inside = None;
         self.piece += 1;
@@ -635,11 +569,8 @@ impl<'a> Emitter<'a> {
     // An initial value more, whose literal, if it has one, has this number.
     fn initial(&mut self, body: &Body, number: u32) -> Result<(), AllocError>
         requires starts { has_initial_value (body_tree body.now) ≡ true }
-        ensures code { OnOk result
-            (self.new.code ≡ self.old.code ++ initial_code_in self.old.site number (body_tree body.now)) }
-        ensures texts { self.new.texts ≡ self.old.texts }
-        ensures literals { self.new.literals ≡ self.old.literals }
-        ensures site { self.new.site ≡ self.old.site }
+        ensures { OnOk result (self.new ≡
+            with_code self.old (initial_code_in self.old.site number (body_tree body.now))) }
     {
         match body {
             Body::Boolean(name, Some(bit)) => {
@@ -664,11 +595,8 @@ impl<'a> Emitter<'a> {
     ) -> Result<(), AllocError>
         requires starts { has_initial_value (body_tree body.now) ≡ true }
         requires outside { self.old.site.inside ≡ None }
-        ensures code { OnOk result (self.new.code ≡ self.old.code
-            ++ preset_code_in self.old number (Some record { block = block.now; body = body_tree body.now })) }
-        ensures texts { self.new.texts ≡ self.old.texts }
-        ensures literals { self.new.literals ≡ self.old.literals }
-        ensures site { OnOk result (self.new.site ≡ self.old.site) }
+        ensures { OnOk result (self.new ≡ with_code self.old (preset_code_in self.old number
+            (Some record { block = block.now; body = body_tree body.now }))) }
     {
         self.inside = Some(*block);
         self.initial(body, number)?;
@@ -679,10 +607,7 @@ impl<'a> Emitter<'a> {
     /// The literal of an initial value more, if it has one.
     pub(crate) fn keep(&mut self, body: &Body) -> Result<(), AllocError>
         requires starts { has_initial_value (body_tree body.now) ≡ true }
-        ensures code { self.new.code ≡ self.old.code }
-        ensures texts { self.new.texts ≡ self.old.texts }
-        ensures literals { OnOk result (self.new.literals ≡ self.old.literals ++ row_literals (body_tree body.now)) }
-        ensures site { self.new.site ≡ self.old.site }
+        ensures { OnOk result (self.new ≡ with_literals self.old (row_literals (body_tree body.now))) }
     {
         match body {
             Body::BooleanArray(_, _, Some(bits)) => {

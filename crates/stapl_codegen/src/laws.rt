@@ -3,7 +3,7 @@ ghost use Rattle.std.specs.Prelude.{ℕ, ◌+◌, ◌*◌, ◌≤◌, List, leng
 ghost use Rattle.stapl_syntax.specs.Trees.{StmtTree};
 ghost use Rattle.stapl_syntax.specs.Programs.{IsProgram};
 ghost use Rattle.stapl_meaning.specs.Scopes.{Played, as_played};
-ghost use Rattle.stapl_code.specs.Files.{file};
+ghost use Rattle.stapl_code.specs.Files.{file, IsFitting};
 ghost use Rattle.stapl_code.specs.Ranges.{IsInRange};
 ghost use Rattle.stapl_code.specs.Valid.{IsValid};
 ghost use Rattle.stapl_codegen.specs.Accepted.{IsAccepted};
@@ -50,6 +50,14 @@ pub fn files_are_short()
     programs_are_accepted();
     statements_are_no_longer_than_their_text();
     statements_fit_into_their_text();
+}
+
+/// The numbers of the code of a program have four bytes each, so that it has a file.
+pub fn codes_of_programs_fit()
+    ensures { (text : List ℕ) (program : List StmtTree) →
+        IsProgram text program → IsFitting (lists_of (as_played program)) }
+{
+    programs_are_accepted();
 }
 
 /// No run of an accepted program gets stuck, on whichever chain that is in a stable state when the run begins: it has

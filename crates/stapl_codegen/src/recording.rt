@@ -1,10 +1,10 @@
 //! The instructions of statements that put records on the record stack or take them off, and of EXPORT.
-ghost use Rattle.std.specs.Prelude.{◌≡◌, [], ◌∷◌, ◌++◌, option_map, OnOk};
+ghost use Rattle.std.specs.Prelude.{◌≡◌, [], ◌∷◌, option_map, OnOk};
 ghost use Rattle.std.specs.Box.{box_value};
 ghost use Rattle.stapl_syntax.specs.Trees.{for_loop, push, scalar, element, pop, exported_value, exported_array, export, expr_tree, array_tree, export_tree};
 ghost use Rattle.stapl_meaning.specs.Operands.{step_or_one};
 ghost use Rattle.stapl_codegen.specs.Emit.{array_literals, row_literals};
-ghost use Rattle.stapl_codegen.specs.Drafts.{expr_code_in, body_code_in};
+ghost use Rattle.stapl_codegen.specs.Drafts.{with_code, with_texts, with_literals, expr_code_in, body_code_in};
 
 use crate::emit::Emitter;
 use crate::tables::{NO_OPERATOR, export_part, given_kind, printed_kind};
@@ -18,11 +18,8 @@ use std::alloc::AllocError;
 impl<'a> Emitter<'a> {
     // The step of a FOR more, which is 1 if none is written.
     fn step(&mut self, step: &Option<Box<Expr>>) -> Result<(), AllocError>
-        ensures code { OnOk result (self.new.code ≡ self.old.code ++ expr_code_in self.old ValueKind.Int
-            (step_or_one (option_map (λ e. expr_tree (box_value e)) step.now))) }
-        ensures texts { self.new.texts ≡ self.old.texts }
-        ensures literals { self.new.literals ≡ self.old.literals }
-        ensures site { self.new.site ≡ self.old.site }
+        ensures { OnOk result (self.new ≡ with_code self.old (expr_code_in self.old ValueKind.Int
+            (step_or_one (option_map (λ e. expr_tree (box_value e)) step.now)))) }
     {
         match step {
             Some(e) => self.expr(ValueKind::Int, e),
@@ -39,11 +36,9 @@ impl<'a> Emitter<'a> {
         to: &Expr,
         step: &Option<Box<Expr>>,
     ) -> Result<(), AllocError>
-        ensures code { OnOk result (self.new.code ≡ self.old.code ++ body_code_in self.old (for_loop name.now
-            (expr_tree from.now) (expr_tree to.now) (option_map (λ e. expr_tree (box_value e)) step.now))) }
-        ensures texts { self.new.texts ≡ self.old.texts }
-        ensures literals { self.new.literals ≡ self.old.literals }
-        ensures site { self.new.site ≡ self.old.site }
+        ensures { OnOk result (self.new ≡ with_code self.old (body_code_in self.old
+            (for_loop name.now (expr_tree from.now) (expr_tree to.now)
+            (option_map (λ e. expr_tree (box_value e)) step.now)))) }
     {
         let number = self.variable(name);
         let follow = self.piece;
@@ -57,10 +52,7 @@ impl<'a> Emitter<'a> {
     /// A PUSH more.
     #[tactic(auto, using(crate::proofs::Lists::expr_before, std::proofs::Common::append_assoc))]
     pub(crate) fn push(&mut self, e: &Expr) -> Result<(), AllocError>
-        ensures code { OnOk result (self.new.code ≡ self.old.code ++ body_code_in self.old (push (expr_tree e.now))) }
-        ensures texts { self.new.texts ≡ self.old.texts }
-        ensures literals { self.new.literals ≡ self.old.literals }
-        ensures site { self.new.site ≡ self.old.site }
+        ensures { OnOk result (self.new ≡ with_code self.old (body_code_in self.old (push (expr_tree e.now)))) }
     {
         let kind = printed_kind(expr_kind(self, e));
         self.expr(kind, e)?;
@@ -70,11 +62,7 @@ impl<'a> Emitter<'a> {
 
     // A POP into a scalar more.
     fn pop_scalar(&mut self, name: &Name) -> Result<(), AllocError>
-        ensures code { OnOk result
-            (self.new.code ≡ self.old.code ++ body_code_in self.old (pop (scalar name.now))) }
-        ensures texts { self.new.texts ≡ self.old.texts }
-        ensures literals { self.new.literals ≡ self.old.literals }
-        ensures site { self.new.site ≡ self.old.site }
+        ensures { OnOk result (self.new ≡ with_code self.old (body_code_in self.old (pop (scalar name.now)))) }
     {
         let kind = given_kind(self.kind(name));
         let number = self.variable(name);
@@ -86,11 +74,8 @@ impl<'a> Emitter<'a> {
     // A POP into an element more.
     #[tactic(auto, using(crate::proofs::Lists::expr_before, std::proofs::Common::append_assoc))]
     fn pop_element(&mut self, name: &Name, index: &Expr) -> Result<(), AllocError>
-        ensures code { OnOk result
-            (self.new.code ≡ self.old.code ++ body_code_in self.old (pop (element name.now (expr_tree index.now)))) }
-        ensures texts { self.new.texts ≡ self.old.texts }
-        ensures literals { self.new.literals ≡ self.old.literals }
-        ensures site { self.new.site ≡ self.old.site }
+        ensures { OnOk result (self.new ≡
+            with_code self.old (body_code_in self.old (pop (element name.now (expr_tree index.now))))) }
     {
         let kind = given_kind(self.kind(name));
         let array = self.variable(name);
@@ -102,10 +87,7 @@ impl<'a> Emitter<'a> {
 
     /// A POP more.
     pub(crate) fn pop(&mut self, cell: &Expr) -> Result<(), AllocError>
-        ensures code { OnOk result (self.new.code ≡ self.old.code ++ body_code_in self.old (pop (expr_tree cell.now))) }
-        ensures texts { self.new.texts ≡ self.old.texts }
-        ensures literals { self.new.literals ≡ self.old.literals }
-        ensures site { self.new.site ≡ self.old.site }
+        ensures { OnOk result (self.new ≡ with_code self.old (body_code_in self.old (pop (expr_tree cell.now)))) }
     {
         match cell {
             Expr::Scalar(name) => {
@@ -123,11 +105,8 @@ impl<'a> Emitter<'a> {
     // An EXPORT of a value more.
     #[tactic(auto, using(crate::proofs::Lists::expr_before, std::proofs::Common::append_assoc))]
     fn export_value(&mut self, key: &[u8], e: &Expr) -> Result<(), AllocError>
-        ensures code { OnOk result (self.new.code ≡ self.old.code
-            ++ body_code_in self.old (export key.now (exported_value (expr_tree e.now)))) }
-        ensures texts { OnOk result (self.new.texts ≡ self.old.texts ++ key.now ∷ []) }
-        ensures literals { self.new.literals ≡ self.old.literals }
-        ensures site { self.new.site ≡ self.old.site }
+        ensures { OnOk result (self.new ≡ with_texts (with_code self.old
+            (body_code_in self.old (export key.now (exported_value (expr_tree e.now))))) (key.now ∷ [])) }
     {
         let number = self.text(key)?;
         let kind = printed_kind(expr_kind(self, e));
@@ -139,11 +118,9 @@ impl<'a> Emitter<'a> {
     // An EXPORT of an array more.
     #[tactic(auto, using(crate::proofs::Lists::operands_before, std::proofs::Common::append_assoc))]
     fn export_array(&mut self, key: &[u8], a: &ArrayExpr) -> Result<(), AllocError>
-        ensures code { OnOk result (self.new.code ≡ self.old.code
-            ++ body_code_in self.old (export key.now (exported_array (array_tree a.now)))) }
-        ensures texts { OnOk result (self.new.texts ≡ self.old.texts ++ key.now ∷ []) }
-        ensures literals { OnOk result (self.new.literals ≡ self.old.literals ++ array_literals (array_tree a.now)) }
-        ensures site { self.new.site ≡ self.old.site }
+        ensures { OnOk result (self.new ≡ with_literals (with_texts (with_code self.old
+            (body_code_in self.old (export key.now (exported_array (array_tree a.now))))) (key.now ∷ []))
+            (array_literals (array_tree a.now))) }
     {
         let number = self.text(key)?;
         let source = self.source(a)?;
@@ -153,12 +130,9 @@ impl<'a> Emitter<'a> {
 
     /// An EXPORT more.
     pub(crate) fn export(&mut self, key: &[u8], x: &Exported) -> Result<(), AllocError>
-        ensures code { OnOk result
-            (self.new.code ≡ self.old.code ++ body_code_in self.old (export key.now (export_tree x.now))) }
-        ensures texts { OnOk result (self.new.texts ≡ self.old.texts ++ key.now ∷ []) }
-        ensures literals { OnOk result
-            (self.new.literals ≡ self.old.literals ++ row_literals (export key.now (export_tree x.now))) }
-        ensures site { self.new.site ≡ self.old.site }
+        ensures { OnOk result (self.new ≡ with_literals (with_texts (with_code self.old
+            (body_code_in self.old (export key.now (export_tree x.now)))) (key.now ∷ []))
+            (row_literals (export key.now (export_tree x.now)))) }
     {
         match x {
             Exported::Value(e) => {

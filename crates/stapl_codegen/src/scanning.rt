@@ -1,9 +1,9 @@
 //! The instructions of scans, of paddings, and of the states in which scans end.
-ghost use Rattle.std.specs.Prelude.{◌≡◌, [], ◌++◌, option_map, Some, length, OnOk, IfOk};
+ghost use Rattle.std.specs.Prelude.{◌≡◌, ◌++◌, option_map, Some, length, OnOk, IfOk};
 ghost use Rattle.std.specs.Box.{box_value};
 ghost use Rattle.stapl_syntax.specs.Trees.{stop, pad, expr_tree, array_tree, compare_tree, scan_tree};
 ghost use Rattle.stapl_codegen.specs.Emit.{past, array_literals, given_literals, compare_literals, row_literals, source_code};
-ghost use Rattle.stapl_codegen.specs.Drafts.{scope_of_site, operands_code_in, array_operands_in, source_in, given_operands_in, given_in, target_operands_in, target_in, compare_operands_in, compare_in, body_code_in};
+ghost use Rattle.stapl_codegen.specs.Drafts.{scope_of_site, with_code, with_literals, operands_code_in, array_operands_in, source_in, given_operands_in, given_in, target_operands_in, target_in, compare_operands_in, compare_in, body_code_in};
 
 use crate::chain::tap;
 use crate::emit::Emitter;
@@ -16,12 +16,9 @@ use std::alloc::AllocError;
 impl<'a> Emitter<'a> {
     // The operands of an array that may be left out more, and where its bits come from.
     fn given_source(&mut self, a: &Option<Box<ArrayExpr>>) -> Result<Option<Source>, AllocError>
-        ensures code { OnOk result (self.new.code ≡ self.old.code ++ operands_code_in self.old
-            (given_operands_in self.old (option_map (λ a. array_tree (box_value a)) a.now))) }
-        ensures texts { self.new.texts ≡ self.old.texts }
-        ensures literals { OnOk result (self.new.literals
-            ≡ self.old.literals ++ given_literals (option_map (λ a. array_tree (box_value a)) a.now)) }
-        ensures site { self.new.site ≡ self.old.site }
+        ensures drafted { OnOk result (self.new ≡ with_literals (with_code self.old
+            (operands_code_in self.old (given_operands_in self.old (option_map (λ a. array_tree (box_value a)) a.now))))
+            (given_literals (option_map (λ a. array_tree (box_value a)) a.now))) }
         ensures source { IfOk result
             (λ source. source ≡ given_in self.old (option_map (λ a. array_tree (box_value a)) a.now)) }
     {
@@ -33,11 +30,8 @@ impl<'a> Emitter<'a> {
 
     // The indexes of an array that takes captured bits more, and where they go.
     fn target(&mut self, a: &ArrayExpr) -> Result<Option<Dest>, AllocError>
-        ensures code { OnOk result (self.new.code ≡ self.old.code
-            ++ operands_code_in self.old (target_operands_in self.old (Some (array_tree a.now)))) }
-        ensures texts { self.new.texts ≡ self.old.texts }
-        ensures literals { self.new.literals ≡ self.old.literals }
-        ensures site { self.new.site ≡ self.old.site }
+        ensures drafted { OnOk result (self.new ≡
+            with_code self.old (operands_code_in self.old (target_operands_in self.old (Some (array_tree a.now))))) }
         ensures target { IfOk result (λ target. target ≡ target_in self.old (Some (array_tree a.now))) }
     {
         match a {
@@ -53,11 +47,8 @@ impl<'a> Emitter<'a> {
 
     // The same of a CAPTURE that may be left out.
     fn capture(&mut self, a: &Option<Box<ArrayExpr>>) -> Result<Option<Dest>, AllocError>
-        ensures code { OnOk result (self.new.code ≡ self.old.code ++ operands_code_in self.old
-            (target_operands_in self.old (option_map (λ a. array_tree (box_value a)) a.now))) }
-        ensures texts { self.new.texts ≡ self.old.texts }
-        ensures literals { self.new.literals ≡ self.old.literals }
-        ensures site { self.new.site ≡ self.old.site }
+        ensures drafted { OnOk result (self.new ≡ with_code self.old (operands_code_in self.old
+            (target_operands_in self.old (option_map (λ a. array_tree (box_value a)) a.now)))) }
         ensures target { IfOk result
             (λ target. target ≡ target_in self.old (option_map (λ a. array_tree (box_value a)) a.now)) }
     {
@@ -73,12 +64,10 @@ impl<'a> Emitter<'a> {
         expected: &ArrayExpr,
         mask: &ArrayExpr,
     ) -> Result<(Source, Source), AllocError>
-        ensures code { OnOk result (self.new.code ≡ self.old.code ++ operands_code_in self.old
-            (array_operands_in self.old (array_tree expected.now) ++ array_operands_in self.old (array_tree mask.now))) }
-        ensures texts { self.new.texts ≡ self.old.texts }
-        ensures literals { OnOk result (self.new.literals
-            ≡ self.old.literals ++ array_literals (array_tree expected.now) ++ array_literals (array_tree mask.now)) }
-        ensures site { self.new.site ≡ self.old.site }
+        ensures drafted { OnOk result (self.new ≡ with_literals (with_code self.old
+            (operands_code_in self.old
+            (array_operands_in self.old (array_tree expected.now) ++ array_operands_in self.old (array_tree mask.now))))
+            (array_literals (array_tree expected.now) ++ array_literals (array_tree mask.now))) }
         ensures expected { IfOk result (λ both. both.0 ≡ source_in self.old (array_tree expected.now)) }
         ensures mask { IfOk result (λ both. both.1 ≡ source_code (scope_of_site self.old.site).look
             (past (length self.old.literals) (array_literals (array_tree expected.now))) (array_tree mask.now)) }
@@ -90,12 +79,9 @@ impl<'a> Emitter<'a> {
 
     // The operands of a comparison more, and what it compares with.
     fn comparison(&mut self, compare: &stapl_syntax::Compare) -> Result<Option<Compare>, AllocError>
-        ensures code { OnOk result (self.new.code ≡ self.old.code
-            ++ operands_code_in self.old (compare_operands_in self.old (Some (compare_tree compare.now)))) }
-        ensures texts { self.new.texts ≡ self.old.texts }
-        ensures literals { OnOk result
-            (self.new.literals ≡ self.old.literals ++ compare_literals (Some (compare_tree compare.now))) }
-        ensures site { self.new.site ≡ self.old.site }
+        ensures drafted { OnOk result (self.new ≡ with_literals (with_code self.old
+            (operands_code_in self.old (compare_operands_in self.old (Some (compare_tree compare.now)))))
+            (compare_literals (Some (compare_tree compare.now)))) }
         ensures compare { IfOk result (λ found. found ≡ compare_in self.old (Some (compare_tree compare.now))) }
     {
         match &compare.cell {
@@ -127,12 +113,10 @@ impl<'a> Emitter<'a> {
         &mut self,
         compare: &Option<Box<stapl_syntax::Compare>>,
     ) -> Result<Option<Compare>, AllocError>
-        ensures code { OnOk result (self.new.code ≡ self.old.code ++ operands_code_in self.old
-            (compare_operands_in self.old (option_map (λ c. compare_tree (box_value c)) compare.now))) }
-        ensures texts { self.new.texts ≡ self.old.texts }
-        ensures literals { OnOk result (self.new.literals
-            ≡ self.old.literals ++ compare_literals (option_map (λ c. compare_tree (box_value c)) compare.now)) }
-        ensures site { self.new.site ≡ self.old.site }
+        ensures drafted { OnOk result (self.new ≡ with_literals (with_code self.old
+            (operands_code_in self.old
+            (compare_operands_in self.old (option_map (λ c. compare_tree (box_value c)) compare.now))))
+            (compare_literals (option_map (λ c. compare_tree (box_value c)) compare.now))) }
         ensures compare { IfOk result
             (λ found. found ≡ compare_in self.old (option_map (λ c. compare_tree (box_value c)) compare.now)) }
     {
@@ -144,11 +128,8 @@ impl<'a> Emitter<'a> {
 
     /// An IRSCAN or DRSCAN more.
     pub(crate) fn scan(&mut self, scan: &stapl_syntax::Scan) -> Result<(), AllocError>
-        ensures code { OnOk result (self.new.code ≡ self.old.code ++ body_code_in self.old (scan_tree scan.now)) }
-        ensures texts { self.new.texts ≡ self.old.texts }
-        ensures literals { OnOk result
-            (self.new.literals ≡ self.old.literals ++ row_literals (scan_tree scan.now)) }
-        ensures site { self.new.site ≡ self.old.site }
+        ensures { OnOk result (self.new ≡ with_literals (with_code self.old
+            (body_code_in self.old (scan_tree scan.now))) (row_literals (scan_tree scan.now))) }
     {
         self.expr(ValueKind::Int, &scan.length)?;
         let source = self.source(&scan.source)?;
@@ -171,12 +152,10 @@ impl<'a> Emitter<'a> {
         length: &Expr,
         bits: &Option<Box<ArrayExpr>>,
     ) -> Result<(), AllocError>
-        ensures code { OnOk result (self.new.code ≡ self.old.code ++ body_code_in self.old
-            (pad which (expr_tree length.now) (option_map (λ a. array_tree (box_value a)) bits.now))) }
-        ensures texts { self.new.texts ≡ self.old.texts }
-        ensures literals { OnOk result (self.new.literals
-            ≡ self.old.literals ++ given_literals (option_map (λ a. array_tree (box_value a)) bits.now)) }
-        ensures site { self.new.site ≡ self.old.site }
+        ensures { OnOk result (self.new ≡ with_literals (with_code self.old
+            (body_code_in self.old
+            (pad which (expr_tree length.now) (option_map (λ a. array_tree (box_value a)) bits.now))))
+            (given_literals (option_map (λ a. array_tree (box_value a)) bits.now))) }
     {
         self.expr(ValueKind::Int, length)?;
         let source = self.given_source(bits)?;
@@ -186,11 +165,7 @@ impl<'a> Emitter<'a> {
 
     /// An IRSTOP or DRSTOP more.
     pub(crate) fn stop(&mut self, register: Register, state: u8) -> Result<(), AllocError>
-        ensures code { OnOk result
-            (self.new.code ≡ self.old.code ++ body_code_in self.old (stop register state)) }
-        ensures texts { self.new.texts ≡ self.old.texts }
-        ensures literals { self.new.literals ≡ self.old.literals }
-        ensures site { self.new.site ≡ self.old.site }
+        ensures { OnOk result (self.new ≡ with_code self.old (body_code_in self.old (stop register state))) }
     {
         self.put(Instr::Stop(register, tap(state)))
     }

@@ -32,13 +32,12 @@ loop-st-preserved c =
     let rest = drop (i + 1) sts in
     let own = piece sts i block (stmt_tree st) rest is at in
     let body = body_of (plays block (body_tree st.body)) (stmt_tree st) in
-    let ensures = c.in_ok-draft_preset.ensures in
     record {
       written = preset_more program i c.loop-st.emitter c.draft_preset.new.emitter c.loop-st.literals c.own_literals.result c.in_ok-own.own c.preset_literals.result c.in_ok-literals.literals
           (preset_of block (body_tree st.body)) own
           (preset_first sts i block (stmt_tree st) rest is at) (piece_first sts i block (stmt_tree st) rest is at) (starts block (body_tree st.body)) c.loop-st.invariant.written
           (c.own_literals.ensures ∙ ap (λ b. length (body_literals b)) (sym body)) c.preset_literals.ensures c.in_ok-own.ensures c.in_ok-literals.ensures
-          ensures.code ensures.texts ensures.literals ensures.site;
+          c.in_ok-draft_preset.ensures;
       at = rw c.data_after-block.ensures (next sts i block (stmt_tree st) rest is at refl);
     }
 

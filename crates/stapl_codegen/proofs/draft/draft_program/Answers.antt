@@ -9,7 +9,7 @@ use Rattle.stapl_meaning.proofs.Blocks.{body_of, same_count}
 use Rattle.stapl_code.specs.Machine.{nowhere}
 use Rattle.stapl_codegen.specs.Emit.{row_literals, preset_items, body_texts, body_literals}
 use Rattle.stapl_codegen.specs.Numbers.{numbers_from}
-use Rattle.stapl_codegen.specs.Drafts.{AreDrafted, IsDraft, site_after, piece_code_in}
+use Rattle.stapl_codegen.specs.Drafts.{with_code, with_texts, with_literals, passed, AreDrafted, IsDraft, piece_code_in}
 use Rattle.stapl_codegen.proofs.Heads.{mapped_more}
 use Rattle.stapl_codegen.proofs.Places.{at_start, piece, piece_first, preset_first, next, presets_count}
 use Rattle.stapl_codegen.proofs.Drafts.{drafted_size, none_written, piece_more, is_draft}
@@ -23,12 +23,10 @@ overflow_cast-program c =
 pub draft_presets-requires : goal.draft_presets-requires
 draft_presets-requires c =
     let sts = trees c.args.program.now in
-    let e = c.new-emitter.ensures in
     let given : ℕ = length c.args.program.now in
     let count : given ≡ length (as_played sts).pieces = omega (arith, same_count None sts, length-map c.args.program.now stmt_tree) in
-    none_written (as_played sts) c.new-emitter.result e.code e.texts e.literals
-    (e.site
-    ∙ ap (λ (l : List ℕ). record { names = c.args.numbers.now.names.now; next = l; count = given; inside = None; piece = 1 }) c.requires.next
+    none_written (as_played sts) _ c.new-emitter.result c.new-emitter.ensures
+    (ap (λ (l : List ℕ). record { names = c.args.numbers.now.names.now; next = l; count = given; inside = None; piece = 1 }) c.requires.next
     ∙ ap (λ (n : Names). record { names = n; next = numbers_from 0 n.blocks; count = given; inside = None; piece = 1 }) c.requires.names
     ∙ ap (λ (n : ℕ). record { names = program_names sts; next = numbers_from 0 (program_names sts).blocks; count = n; inside = None; piece = 1 }) count)
 
@@ -58,14 +56,12 @@ loop-st-preserved c =
     let own = piece sts i block (stmt_tree st) (drop (i + 1) sts) is at in
     let playing = c.plays-playing.ensures in
     let body = body_of (plays block (body_tree st.body)) (stmt_tree st) in
-    let ensures = c.in_ok-draft_piece.ensures in
     record {
       drafted = piece_more program i before c.loop-st.starts.items c.loop-st.invariant.drafted c.requires.accepted.typed own (piece_first sts i block (stmt_tree st) (drop (i + 1) sts) is at)
           (preset_of block (body_tree st.body)) (preset_first sts i block (stmt_tree st) (drop (i + 1) sts) is at) c.draft_piece.new.emitter c.start_at.result c.push.new.self.items
-          (ensures.code ∙ ap (λ b. before.code ++ piece_code_in before (if b then stmt_tree st else idle)) playing)
-          (ensures.texts ∙ ap (λ b. before.texts ++ body_texts (if b then stmt_tree st else idle).body) playing)
-          (ensures.literals ∙ ap (λ b. before.literals ++ (body_literals (if b then stmt_tree st else idle).body ++ preset_items row_literals (preset_of block (body_tree st.body)))) playing)
-          (ensures.site ∙ ap (λ b. site_after before.site (if b then stmt_tree st else idle).body) playing)
+          (c.in_ok-draft_piece.ensures
+          ∙ ap (λ b. passed (with_literals (with_texts (with_code before (piece_code_in before (if b then stmt_tree st else idle))) (body_texts (if b then stmt_tree st else idle).body))
+          (body_literals (if b then stmt_tree st else idle).body ++ preset_items row_literals (preset_of block (body_tree st.body)))) (if b then stmt_tree st else idle).body) playing)
           (c.start_at.ensures
           ∙ ap (λ b. if is_outer (if b then body_tree st.body else end_data) then nowhere else c.len.result) playing
           ∙ ap (λ b. if is_outer b then nowhere else c.len.result) (sym body)

@@ -13,4 +13,4 @@ loop-part-preserved c =
     let so_far = subst (AreWritten c.args.self.now all c.loop-part.self c.loop-part.list.items) is c.loop-part.invariant in
     let ensures = c.in_ok-part.ensures in
     part_more (part_tree part) (drop (i + 1) all) c.args.self.now c.loop-part.self c.part.new.self all c.loop-part.list.items c.push.new.self.items c.in_ok-part.field-0 so_far
-    ensures.code ensures.texts ensures.literals ensures.site ensures.printed c.in_ok-push.ensures.items
+    ensures.drafted ensures.printed c.in_ok-push.ensures.items
