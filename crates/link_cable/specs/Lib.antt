@@ -1,3 +1,4 @@
 pub mod Wires
 pub mod MemWires
 pub mod LinkCables
+pub mod WireCalls

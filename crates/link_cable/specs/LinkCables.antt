@@ -6,8 +6,9 @@ use Rattle.std.proofs.lemmas.Option.{none-some, same_Some}
 use Rattle.dev_card.specs.Card.{Card}
 use Rattle.dev_card.specs.Sound.{AllSound}
 use Rattle.tool_io.specs.Causes.{IsSaturated}
-use Rattle.scan_paths.specs.Cables.{Breakage, Signal, whole_if}
+use Rattle.scan_paths.specs.Cables.{Breakage, Signal, whole_if, IsCableKept}
 use Rattle.link_cable.specs.declared.link_cable.LinkCable.{LinkCable}
+use Rattle.link_cable.specs.declared.wire.Wire.{Ghosts as WireOf}
 use Rattle.link_cable.specs.Wires.{WireState, is_in_step, told_board, IsGoodWire}
 
 -- it stands over the wire that this reference points to
@@ -65,6 +66,12 @@ no_faults c = 0
 
 abbrev pub IsNever : {W : Type 0} → LinkCable W → Type 0
 IsNever c = ⊥
+
+-- what a call keeps, as of any cable
+abbrev pub KeepsLinkCable : {W T E : Type 0} → WireOf W → LinkCable W → LinkCable W → Result T E → Type 0
+KeepsLinkCable wire old new result =
+    IsCableKept (cable_count wire.faults) (IsCountLast wire.is_last) no_faults IsNever (cable_breakage wire.is_ready)
+    old new result
 
 -- signals lead from a cable to one over the same wire
 abbrev pub leads : {W : Type 0} → LinkCable W → List Signal → LinkCable W → Type 0

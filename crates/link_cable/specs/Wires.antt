@@ -1,6 +1,6 @@
 -- What a wire to a link tells, and what its calls do. The link is the one of the protocol remote bitbang; the rules of
 -- wires are this profile's.
-use Rattle.std.specs.Prelude.{◌≡◌, ℕ, ◌+◌, ◌<◌, ◌≤◌, ◌&&◌, Bool, true, false, List, [], ◌∷◌, ◌++◌, length, take, drop, map, Option, None, Some, if◌then◌else◌, slice_get}
+use Rattle.std.specs.Prelude.{◌≡◌, ℕ, ◌+◌, ◌<◌, ◌≤◌, ◌&&◌, Bool, true, false, List, [], ◌∷◌, ◌++◌, length, take, drop, map, Option, None, Some, Result, Ok, Err, if◌then◌else◌, slice_get}
 use Rattle.std.specs.Option.{option_map}
 use Rattle.base.specs.Bits.{number_of}
 use Rattle.dev_card.specs.Card.{Card}
@@ -46,6 +46,11 @@ pub record HasSentFront (old : Option WireState) (bytes : List ℕ) (new : Optio
   pub within : count ≤ length bytes
   pub untold : old ≡ None → new ≡ None
   pub state : (s now : WireState) → old ≡ Some s → new ≡ Some now → now ≡ sent s (take count bytes)
+
+-- What a send does, by its result: it took so many of the bytes, or a front of them if it failed.
+abbrev pub SendAnswer : {E : Type 0} → Option WireState → List ℕ → Result ℕ E → Option WireState → Type 0
+SendAnswer old bytes (Ok n) new = HasSent old bytes n new
+SendAnswer old bytes (Err e) new = HasSentFront old bytes new
 
 -- so many of the waiting answers were received, the oldest first: none only if none waits
 pub record HasReceived (old : Option WireState) (n : ℕ) (buffer : List ℕ) (new : Option WireState) : Type 0 where

@@ -1,10 +1,11 @@
 //! Bytes to a wire and answers from it, until all are through.
-ghost use Rattle.std.specs.Prelude.{◌≡◌, ◌≢◌, ◌+◌, ◌<◌, ◌≤◌, ◌⊎◌, ◌*◌, ◌^◌, ◌==◌, ◌&&◌, ℕ, Bool, true, length, IfSome, IfNone, IfOk, IsOk, OnOk};
-ghost use Rattle.tool_io.specs.Causes.{IsSaturated, CountKept, CountRose, CountCause, raised_count};
+ghost use Rattle.std.specs.Prelude.{◌≡◌, ◌≢◌, ◌+◌, ◌<◌, ◌≤◌, ◌*◌, ◌^◌, ◌==◌, ◌&&◌, ℕ, Bool, true, length, IfSome, IfNone, IfOk, IsOk, OnOk};
+ghost use Rattle.tool_io.specs.Causes.{IsSaturated, CountKept, CountRose, raised_count};
 ghost use Rattle.base.specs.Bits.{bit_value};
 ghost use Rattle.dev_card.specs.Blocks.{block_inputs};
 ghost use Rattle.link_server.specs.Runs.{digit_of};
 ghost use Rattle.link_cable.specs.Wires.{told_sent, HasRoom, AnswerWaits, HasGiven, bytes_of_clock, IsClockedOver, IsShiftedOver, IsGoodWire};
+ghost use Rattle.link_cable.specs.WireCalls.{KeepsWire};
 
 use crate::wire::Wire;
 use tool_io::Failed;
@@ -24,9 +25,7 @@ fn send_all<W: Wire>(wire: &mut W, bytes: &[u8], faults: &mut u64) -> Result<(),
     ensures sent { OnOk result (W.told wire.new ≡ told_sent (W.told wire.old) bytes.now) }
     ensures room { HasRoom (W.told wire.old) (W.is_steady wire.old) (length bytes.now) → IsOk result }
     ensures steady { OnOk result (W.is_steady wire.old ≡ true → W.is_steady wire.new ≡ true) }
-    ensures ready { W.is_ready wire.new ≡ true }
-    ensures cause { CountCause (W.faults wire.old + faults.old) (W.faults wire.new + faults.new)
-        (W.is_last wire.old ⊎ IsSaturated faults.old) (W.is_last wire.new ⊎ IsSaturated faults.new) result }
+    ensures kept { KeepsWire W.Wire wire.old faults.old wire.new faults.new result }
 {
     let mut rest = bytes;
     'turns: while !rest.is_empty() {
@@ -46,9 +45,7 @@ fn receive_one<W: Wire>(wire: &mut W, faults: &mut u64) -> Result<u8, Failed>
     ensures given { IfOk result (λ answer. HasGiven (W.told wire.old) answer (W.told wire.new)) }
     ensures waits { AnswerWaits (W.told wire.old) (W.is_steady wire.old) → IsOk result }
     ensures steady { OnOk result (W.is_steady wire.old ≡ true → W.is_steady wire.new ≡ true) }
-    ensures ready { W.is_ready wire.new ≡ true }
-    ensures cause { CountCause (W.faults wire.old + faults.old) (W.faults wire.new + faults.new)
-        (W.is_last wire.old ⊎ IsSaturated faults.old) (W.is_last wire.new ⊎ IsSaturated faults.new) result }
+    ensures kept { KeepsWire W.Wire wire.old faults.old wire.new faults.new result }
 {
     let mut answer = [0u8; 1];
     let n = wire.receive(&mut answer)?;
@@ -90,9 +87,7 @@ pub(crate) fn clock_wire<W: Wire>(
     ensures clocked { IfOk result (λ tdo. IsClockedOver (W.told wire.old) tms tdi tdo (W.told wire.new)) }
     ensures good { IsGoodWire (W.told wire.old) (W.is_steady wire.old) →
         IsOk result × IsGoodWire (W.told wire.new) (W.is_steady wire.new) }
-    ensures ready { W.is_ready wire.new ≡ true }
-    ensures cause { CountCause (W.faults wire.old + faults.old) (W.faults wire.new + faults.new)
-        (W.is_last wire.old ⊎ IsSaturated faults.old) (W.is_last wire.new ⊎ IsSaturated faults.new) result }
+    ensures kept { KeepsWire W.Wire wire.old faults.old wire.new faults.new result }
 {
     let bytes = clock_bytes(tms, tdi);
     send_all(wire, &bytes, faults)?;
@@ -131,9 +126,7 @@ pub(crate) fn shift_wire<W: Wire>(
     ensures small { IfOk result (λ tdo. tdo < 2 ^ n) }
     ensures good { IsGoodWire (W.told wire.old) (W.is_steady wire.old) →
         IsOk result × IsGoodWire (W.told wire.new) (W.is_steady wire.new) }
-    ensures ready { W.is_ready wire.new ≡ true }
-    ensures cause { CountCause (W.faults wire.old + faults.old) (W.faults wire.new + faults.new)
-        (W.is_last wire.old ⊎ IsSaturated faults.old) (W.is_last wire.new ⊎ IsSaturated faults.new) result }
+    ensures kept { KeepsWire W.Wire wire.old faults.old wire.new faults.new result }
 {
     if n == 0 {
         return Ok(0);

@@ -1,8 +1,8 @@
 //! A cable over a wire to a link.
-ghost use Rattle.std.specs.Prelude.{◌≡◌, ◌≢◌, ◌≤◌, true, IfOk, OnOk, OnErr, refl};
+ghost use Rattle.std.specs.Prelude.{◌≡◌, ◌≤◌, true, refl};
 ghost use Rattle.std.proofs.Common.{◌∙◌};
 ghost use Rattle.dev_card.specs.Blocks.{block_inputs};
-ghost use Rattle.scan_paths.specs.Cables.{whole, line, pins, Waits, Tunes, HasPartCause, IsClocked, IsClockedOrNot, IsSignalled, IsSignalledOrNot, HasMadeFront, HasShifted};
+ghost use Rattle.scan_paths.specs.Cables.{whole, Waits, Tunes, ClockAnswer, BlockAnswer, SignalAnswer};
 ghost use Rattle.link_cable.specs.LinkCables.{through_sound};
 
 use crate::calls::{clock_wire, shift_wire};
@@ -42,7 +42,7 @@ impl<'a, W: Wire> LinkCable<'a, W> {
 }
 
 impl<W: Wire> Cable for LinkCable<'_, W> {
-    ghost use Rattle.link_cable.specs.LinkCables.{wire_of, cable_board, cable_count, IsCountLast, cable_breakage, no_faults, IsNever, leads, GoesWell};
+    ghost use Rattle.link_cable.specs.LinkCables.{wire_of, cable_board, cable_count, IsCountLast, cable_breakage, no_faults, IsNever, KeepsLinkCable, leads, GoesWell};
 
     ghost board = { cable_board W.told };
 
@@ -62,14 +62,8 @@ impl<W: Wire> Cable for LinkCable<'_, W> {
     /// all this holds again afterwards.
     fn clock(&mut self, tms: bool, tdi: bool) -> Result<bool, Failed>
         requires { cable_breakage W.is_ready self.old ≡ whole }
-        ensures clocked { IfOk result (λ tdo.
-            IsClocked (cable_board W.told) leads self.old self.new tms tdi tdo) }
-        ensures failed { OnErr result (IsClockedOrNot (cable_board W.told) leads self.old self.new tms tdi) }
-        ensures unbroken { OnOk result (cable_breakage W.is_ready self.new ≡ whole) }
-        ensures broken { OnErr result (cable_breakage W.is_ready self.new ≢ whole) }
-        ensures line { HasPartCause line (cable_count W.faults) (IsCountLast W.is_last) (cable_breakage W.is_ready)
-            self.old self.new }
-        ensures pins { HasPartCause pins no_faults IsNever (cable_breakage W.is_ready) self.old self.new }
+        ensures clocked { ClockAnswer (cable_board W.told) leads self.old self.new tms tdi result }
+        ensures kept { KeepsLinkCable W.Wire self.old self.new result }
         ensures well { GoesWell W.told W.is_steady self.old self.new result }
     {
         self.is_broken = true;
@@ -83,15 +77,8 @@ impl<W: Wire> Cable for LinkCable<'_, W> {
         requires whole { cable_breakage W.is_ready self.old ≡ whole }
         requires some { 1 ≤ n }
         requires most { n ≤ 64 }
-        ensures shifted { IfOk result (λ tdo.
-            HasShifted (cable_board W.told) leads self.old self.new (block_inputs tdi n last) tdo) }
-        ensures failed { OnErr result
-            (HasMadeFront (cable_board W.told) leads self.old self.new (block_inputs tdi n last)) }
-        ensures unbroken { OnOk result (cable_breakage W.is_ready self.new ≡ whole) }
-        ensures broken { OnErr result (cable_breakage W.is_ready self.new ≢ whole) }
-        ensures line { HasPartCause line (cable_count W.faults) (IsCountLast W.is_last) (cable_breakage W.is_ready)
-            self.old self.new }
-        ensures pins { HasPartCause pins no_faults IsNever (cable_breakage W.is_ready) self.old self.new }
+        ensures shifted { BlockAnswer (cable_board W.told) leads self.old self.new (block_inputs tdi n last) result }
+        ensures kept { KeepsLinkCable W.Wire self.old self.new result }
         ensures well { GoesWell W.told W.is_steady self.old self.new result }
     {
         self.is_broken = true;
@@ -103,13 +90,8 @@ impl<W: Wire> Cable for LinkCable<'_, W> {
     /// A wait sends nothing.
     fn usec(&mut self, n: u32) -> Result<(), Failed>
         requires { cable_breakage W.is_ready self.old ≡ whole }
-        ensures signalled { OnOk result (IsSignalled (cable_board W.told) leads self.old self.new (Waits n)) }
-        ensures failed { OnErr result (IsSignalledOrNot (cable_board W.told) leads self.old self.new (Waits n)) }
-        ensures unbroken { OnOk result (cable_breakage W.is_ready self.new ≡ whole) }
-        ensures broken { OnErr result (cable_breakage W.is_ready self.new ≢ whole) }
-        ensures line { HasPartCause line (cable_count W.faults) (IsCountLast W.is_last) (cable_breakage W.is_ready)
-            self.old self.new }
-        ensures pins { HasPartCause pins no_faults IsNever (cable_breakage W.is_ready) self.old self.new }
+        ensures signalled { SignalAnswer (cable_board W.told) leads self.old self.new (Waits n) result }
+        ensures kept { KeepsLinkCable W.Wire self.old self.new result }
         ensures well { GoesWell W.told W.is_steady self.old self.new result }
     {
         let _n = n;
@@ -119,13 +101,8 @@ impl<W: Wire> Cable for LinkCable<'_, W> {
     /// A frequency sends nothing.
     fn hertz(&mut self, n: u32) -> Result<(), Failed>
         requires { cable_breakage W.is_ready self.old ≡ whole }
-        ensures signalled { OnOk result (IsSignalled (cable_board W.told) leads self.old self.new (Tunes n)) }
-        ensures failed { OnErr result (IsSignalledOrNot (cable_board W.told) leads self.old self.new (Tunes n)) }
-        ensures unbroken { OnOk result (cable_breakage W.is_ready self.new ≡ whole) }
-        ensures broken { OnErr result (cable_breakage W.is_ready self.new ≢ whole) }
-        ensures line { HasPartCause line (cable_count W.faults) (IsCountLast W.is_last) (cable_breakage W.is_ready)
-            self.old self.new }
-        ensures pins { HasPartCause pins no_faults IsNever (cable_breakage W.is_ready) self.old self.new }
+        ensures signalled { SignalAnswer (cable_board W.told) leads self.old self.new (Tunes n) result }
+        ensures kept { KeepsLinkCable W.Wire self.old self.new result }
         ensures well { GoesWell W.told W.is_steady self.old self.new result }
     {
         let _n = n;

@@ -1,8 +1,8 @@
 //! A wire in memory.
-ghost use Rattle.std.specs.Prelude.{◌≡◌, ◌<◌, [], true, length, IsTrue, IsOk, IfOk, OnOk, OnErr, map};
+ghost use Rattle.std.specs.Prelude.{◌≡◌, ◌<◌, [], true, length, IsTrue, IsOk, IfOk, OnOk, map};
 ghost use Rattle.tool_io.specs.Causes.{HasCause};
 ghost use Rattle.chain_sim.specs.Places.{is_chain};
-ghost use Rattle.link_cable.specs.Wires.{HasSent, HasSentFront, HasReceived, KeepsLink, HasRoom, IsGoodWire};
+ghost use Rattle.link_cable.specs.Wires.{SendAnswer, HasReceived, KeepsLink, HasRoom, IsGoodWire};
 ghost use Rattle.link_cable.specs.MemWires.{over_sound, over_some};
 
 use crate::calls::raise;
@@ -72,9 +72,7 @@ impl<D: Device> Wire for MemWireOf<'_, D> {
 
     fn send(&mut self, bytes: &[u8]) -> Result<u32, Failed>
         requires { mem_ready D.fitted self.old ≡ true }
-        ensures sent { IfOk result (λ n. HasSent (mem_told D.fitted self.old) bytes.now n (mem_told D.fitted self.new)) }
-        ensures front { OnErr result (HasSentFront (mem_told D.fitted self.old) bytes.now
-            (mem_told D.fitted self.new)) }
+        ensures sent { SendAnswer (mem_told D.fitted self.old) bytes.now result (mem_told D.fitted self.new) }
         ensures room { HasRoom (mem_told D.fitted self.old) (mem_steady self.old) (length bytes.now) → IsOk result }
         ensures steady { OnOk result (mem_steady self.old ≡ true → mem_steady self.new ≡ true) }
         ensures ready { mem_ready D.fitted self.new ≡ true }

@@ -1,8 +1,8 @@
 //! The wire to a link.
-ghost use Rattle.std.specs.Prelude.{◌≡◌, ◌<◌, ℕ, List, Bool, true, length, Option, Some, IfOk, IsOk, OnOk, OnErr};
+ghost use Rattle.std.specs.Prelude.{◌≡◌, ◌<◌, ℕ, List, Bool, true, length, Option, Some, IfOk, IsOk, OnOk};
 ghost use Rattle.tool_io.specs.Causes.{HasCause};
 ghost use Rattle.dev_card.specs.Sound.{AllSound};
-ghost use Rattle.link_cable.specs.Wires.{WireState, HasSent, HasSentFront, HasReceived, KeepsLink, HasRoom};
+ghost use Rattle.link_cable.specs.Wires.{WireState, SendAnswer, HasReceived, KeepsLink, HasRoom};
 
 use tool_io::Failed;
 
@@ -36,8 +36,7 @@ pub trait Wire {
     /// steady wire refuses only if waiting answers and bytes are together more than 64.
     fn send(&mut self, bytes: &[u8]) -> Result<u32, Failed>
         requires { is_ready self.old ≡ true }
-        ensures sent { IfOk result (λ n. HasSent (told self.old) bytes.now n (told self.new)) }
-        ensures front { OnErr result (HasSentFront (told self.old) bytes.now (told self.new)) }
+        ensures sent { SendAnswer (told self.old) bytes.now result (told self.new) }
         ensures room { HasRoom (told self.old) (is_steady self.old) (length bytes.now) → IsOk result }
         ensures steady { OnOk result (is_steady self.old ≡ true → is_steady self.new ≡ true) }
         ensures ready { is_ready self.new ≡ true }

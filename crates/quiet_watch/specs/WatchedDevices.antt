@@ -1,10 +1,10 @@
 -- A watch over the devices of a lent rack, as contracts see it.
-use Rattle.std.specs.Prelude.{◌≡◌, ◌^◌, ◌-◌, ℕ, Bool, map, List, Option, None, if◌then◌else◌}
+use Rattle.std.specs.Prelude.{◌≡◌, ◌^◌, ◌-◌, ℕ, Bool, map, List, Option, None, Result, if◌then◌else◌}
 use Rattle.std.specs.Borrow.{MutBor}
 use Rattle.dev_card.specs.declared.desc.Kind.{Kind}
 use Rattle.dev_card.specs.Card.{Card}
 use Rattle.dev_card.specs.Sound.{SoundCard}
-use Rattle.scan_paths.specs.Cables.{Signal, Breakage, line, whole_if}
+use Rattle.scan_paths.specs.Cables.{Signal, Breakage, line, whole_if, IsCableKept}
 use Rattle.chain_sim.specs.Places.{cards_at, is_chain}
 use Rattle.quiet_watch.specs.declared.watch.Watch.{Watch}
 use Rattle.quiet_watch.specs.Watches.{Watched, watch_tdo, watch_step, Follows}
@@ -56,6 +56,10 @@ module _ {D : Type 0} (fitted : D → Option SoundCard) (kind_of : D → Kind) w
   -- a watch has failed, or stands over no chain
   abbrev pub watch_breakage : Watch D → Breakage
   watch_breakage w = if w.is_broken then line else whole_if (is_chain (map fitted w.rack.now.items) w.places.now)
+
+  -- what a call keeps of it, as of any cable
+  abbrev pub KeepsWatch : {T E : Type 0} → Watch D → Watch D → Result T E → Type 0
+  KeepsWatch old new result = IsCableKept watch_faults IsWatchLast no_faults IsNever watch_breakage old new result
 
   -- it is over the same rack, whose devices keep their kinds, and over the same places
   pub record IsSameWatch (old new : Watch D) : Type 0 where

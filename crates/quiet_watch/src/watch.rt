@@ -6,7 +6,7 @@ ghost use Rattle.base.specs.Bits.{bit_value};
 ghost use Rattle.tap_states.specs.declared.Tap.TheVariants.{Reset};
 ghost use Rattle.dev_card.specs.Board.{board_tdo};
 ghost use Rattle.dev_card.specs.Blocks.{block_inputs};
-ghost use Rattle.scan_paths.specs.Cables.{whole, line, HasPartCause, HasShifted, HasMadeFront};
+ghost use Rattle.scan_paths.specs.Cables.{whole, BlockAnswer};
 ghost use Rattle.chain_sim.specs.Places.{cards_at, is_chain};
 ghost use Rattle.padded_plays.specs.QuietClocks.{is_scan_state, loaded_at};
 ghost use Rattle.quiet_watch.specs.Watches.{is_instruction_shift, is_shift_state, or_else, walk_seen, scan_seen, walked, marked, shifted_by, seen_by};
@@ -139,7 +139,7 @@ pub struct Watch<'a, D> {
 }
 
 impl<'a, D: Device> Watch<'a, D> {
-    ghost use Rattle.quiet_watch.specs.WatchedDevices.{devices_of, watched_places, IsOver, watched_of, watch_breakage, watch_faults, IsWatchLast, untold, IsSameWatch, HasFollowed, HasStepped, HasStayed};
+    ghost use Rattle.quiet_watch.specs.WatchedDevices.{devices_of, watched_places, IsOver, watched_of, watch_breakage, watch_faults, IsWatchLast, untold, KeepsWatch, IsSameWatch, HasFollowed, HasStepped, HasStayed};
 
     /// A watch over the devices of these descriptions at these places, whose controllers are in the reset state, and
     /// which no instruction was loaded into. There is at least one place, the places differ, and each has a fitted
@@ -203,10 +203,7 @@ impl<'a, D: Device> Watch<'a, D> {
         ensures answer { IfOk result (λ tdo. tdo ≡ false) }
         ensures same { IsSameWatch D.fitted D.kind_of self.old self.new }
         ensures stayed { OnErr result (HasStayed D.fitted D.kind_of self.old self.new) }
-        ensures unbroken { OnOk result (watch_breakage D.fitted D.kind_of self.new ≡ whole) }
-        ensures broken { OnErr result (watch_breakage D.fitted D.kind_of self.new ≢ whole) }
-        ensures line { HasPartCause line watch_faults IsWatchLast (watch_breakage D.fitted D.kind_of)
-            self.old self.new }
+        ensures kept { KeepsWatch D.fitted D.kind_of self.old self.new result }
     {
         match lengths(
             self.rack,
@@ -282,10 +279,7 @@ impl<'a, D: Device> Watch<'a, D> {
         requires during { (watched_of D.fitted D.kind_of self.old).scan ≡ Some scan }
         ensures stepped { IfOk result (λ tdo. HasStepped D.fitted D.kind_of self.old tms tdi tdo self.new) }
         ensures stayed { OnErr result (HasStayed D.fitted D.kind_of self.old self.new) }
-        ensures unbroken { OnOk result (watch_breakage D.fitted D.kind_of self.new ≡ whole) }
-        ensures broken { OnErr result (watch_breakage D.fitted D.kind_of self.new ≢ whole) }
-        ensures line { HasPartCause line watch_faults IsWatchLast (watch_breakage D.fitted D.kind_of)
-            self.old self.new }
+        ensures kept { KeepsWatch D.fitted D.kind_of self.old self.new result }
     {
         match scan.shifted.checked_add(1) {
             Some(shifted) => {
@@ -304,10 +298,7 @@ impl<'a, D: Device> Watch<'a, D> {
         requires whole { watch_breakage D.fitted D.kind_of self.old ≡ whole }
         ensures stepped { IfOk result (λ tdo. HasStepped D.fitted D.kind_of self.old tms tdi tdo self.new) }
         ensures stayed { OnErr result (HasStayed D.fitted D.kind_of self.old self.new) }
-        ensures unbroken { OnOk result (watch_breakage D.fitted D.kind_of self.new ≡ whole) }
-        ensures broken { OnErr result (watch_breakage D.fitted D.kind_of self.new ≢ whole) }
-        ensures line { HasPartCause line watch_faults IsWatchLast (watch_breakage D.fitted D.kind_of)
-            self.old self.new }
+        ensures kept { KeepsWatch D.fitted D.kind_of self.old self.new result }
     {
         match self.scan {
             None => {
@@ -325,15 +316,10 @@ impl<'a, D: Device> Watch<'a, D> {
     fn block(&mut self, tdi: u64, n: u32, last: bool) -> Result<u64, Failed>
         requires whole { watch_breakage D.fitted D.kind_of self.old ≡ whole }
         requires most { n ≤ 64 }
-        ensures shifted { IfOk result (λ tdo. HasShifted untold (HasFollowed D.fitted D.kind_of) self.old self.new
-            (block_inputs tdi n last) tdo) }
+        ensures shifted { BlockAnswer untold (HasFollowed D.fitted D.kind_of) self.old self.new
+            (block_inputs tdi n last) result }
         ensures small { IfOk result (λ tdo. tdo < 2 ^ n) }
-        ensures front { OnErr result (HasMadeFront untold (HasFollowed D.fitted D.kind_of) self.old self.new
-            (block_inputs tdi n last)) }
-        ensures unbroken { OnOk result (watch_breakage D.fitted D.kind_of self.new ≡ whole) }
-        ensures broken { OnErr result (watch_breakage D.fitted D.kind_of self.new ≢ whole) }
-        ensures line { HasPartCause line watch_faults IsWatchLast (watch_breakage D.fitted D.kind_of)
-            self.old self.new }
+        ensures kept { KeepsWatch D.fitted D.kind_of self.old self.new result }
     {
         if n == 0 {
             return Ok(0);

@@ -5,7 +5,8 @@ ghost use Rattle.base.specs.Bits.{bit_value};
 ghost use Rattle.tool_io.specs.Causes.{HasCause};
 ghost use Rattle.tap_states.specs.declared.Tap.TheVariants as taps;
 ghost use Rattle.tap_states.specs.Tap.{is_stable_state};
-ghost use Rattle.scan_paths.specs.Cables.{whole, line, pins, HasPartCause, Waits, Tunes, IsSignalled, IsSignalledOrNot};
+ghost use Rattle.scan_paths.specs.Cables.{whole, line, pins, HasPartCause, Waits, Tunes, SignalAnswer};
+ghost use Rattle.scan_paths.specs.CableCalls.{KeepsCable};
 ghost use Rattle.stapl_meaning.specs.declared.events.Event.TheVariants.{Print, Usec, Hertz};
 ghost use Rattle.stapl_meaning.specs.Texts.{pin_digit, pin_line, full_line, with_digit, bytes_of, waiting, pin_limit};
 ghost use Rattle.scan_paths.specs.Scans.{lengths_of};
@@ -147,12 +148,8 @@ fn note_block<O: Paper>(
 // A wait that is made on a cable, apart from its line.
 fn wait_once<C: Cable>(cable: &mut C, n: u32) -> Result<(), Failed>
     requires { C.breakage cable.old ≡ whole }
-    ensures signalled { OnOk result (IsSignalled C.board C.made cable.old cable.new (Waits n)) }
-    ensures failed { OnErr result (IsSignalledOrNot C.board C.made cable.old cable.new (Waits n)) }
-    ensures unbroken { OnOk result (C.breakage cable.new ≡ whole) }
-    ensures broken { OnErr result (C.breakage cable.new ≢ whole) }
-    ensures line { HasPartCause line C.line_faults C.is_line_last C.breakage cable.old cable.new }
-    ensures pins { HasPartCause pins C.pin_faults C.is_pin_last C.breakage cable.old cable.new }
+    ensures signalled { SignalAnswer C.board C.made cable.old cable.new (Waits n) result }
+    ensures kept { KeepsCable C.Cable cable.old cable.new result }
 {
     cable.usec(n)?;
     Ok(())
@@ -161,12 +158,8 @@ fn wait_once<C: Cable>(cable: &mut C, n: u32) -> Result<(), Failed>
 // A frequency that is set on a cable, apart from its line.
 fn set_frequency<C: Cable>(cable: &mut C, n: u32) -> Result<(), Failed>
     requires { C.breakage cable.old ≡ whole }
-    ensures signalled { OnOk result (IsSignalled C.board C.made cable.old cable.new (Tunes n)) }
-    ensures failed { OnErr result (IsSignalledOrNot C.board C.made cable.old cable.new (Tunes n)) }
-    ensures unbroken { OnOk result (C.breakage cable.new ≡ whole) }
-    ensures broken { OnErr result (C.breakage cable.new ≢ whole) }
-    ensures line { HasPartCause line C.line_faults C.is_line_last C.breakage cable.old cable.new }
-    ensures pins { HasPartCause pins C.pin_faults C.is_pin_last C.breakage cable.old cable.new }
+    ensures signalled { SignalAnswer C.board C.made cable.old cable.new (Tunes n) result }
+    ensures kept { KeepsCable C.Cable cable.old cable.new result }
 {
     cable.hertz(n)?;
     Ok(())

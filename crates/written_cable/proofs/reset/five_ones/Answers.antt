@@ -22,25 +22,25 @@ pub returns-in_err-tdo-clause-front : goal.returns-in_err-tdo-clause-front
 returns-in_err-tdo-clause-front g c =
     let m = g.C.Cable in
     let n = rw (next_same 5 c.loop-turn._turn true (omega arith)) at c.loop-turn.invariant.noted in
-    on_err _ (way_failed m.board m.made g.met.C.Cable.both_made c.args.cable.now c.loop-turn.cable c.clock.new.self _ _ _ c.in_err-tdo.ensures.failed
+    on_err _ (way_failed m.board m.made g.met.C.Cable.both_made c.args.cable.now c.loop-turn.cable c.clock.new.self _ _ _ c.in_err-tdo.ensures.clocked
     (noted_way m.board m.made c.args.cable.now c.loop-turn.cable _ _ n))
 
 pub returns-in_err-tdo-clause-line : goal.returns-in_err-tdo-clause-line
-returns-in_err-tdo-clause-line g c = part_then c.loop-turn.invariant.line c.in_err-tdo.ensures.line
+returns-in_err-tdo-clause-line g c = part_then c.loop-turn.invariant.line c.in_err-tdo.ensures.kept.line_cause
 
 pub returns-in_err-tdo-clause-pins : goal.returns-in_err-tdo-clause-pins
-returns-in_err-tdo-clause-pins g c = part_then c.loop-turn.invariant.pins c.in_err-tdo.ensures.pins
+returns-in_err-tdo-clause-pins g c = part_then c.loop-turn.invariant.pins c.in_err-tdo.ensures.kept.pins_cause
 
 pub loop-turn-preserved : goal.loop-turn-preserved
 loop-turn-preserved g c =
     let m = g.C.Cable in
     let n = rw (next_same 5 c.loop-turn._turn true (omega arith)) at c.loop-turn.invariant.noted in
     record {
-      whole = c.in_ok-tdo.ensures.unbroken;
+      whole = c.in_ok-tdo.ensures.kept.unbroken;
       few = rw (c.push.ensures) (length_more c.loop-turn.digits _ c.loop-turn._turn c.loop-turn.invariant.few);
       within = omega arith;
-      line = part_then c.loop-turn.invariant.line c.in_ok-tdo.ensures.line;
-      pins = part_then c.loop-turn.invariant.pins c.in_ok-tdo.ensures.pins;
+      line = part_then c.loop-turn.invariant.line c.in_ok-tdo.ensures.kept.line_cause;
+      pins = part_then c.loop-turn.invariant.pins c.in_ok-tdo.ensures.kept.pins_cause;
       noted = rw (c.push.ensures, c.digit.ensures) (noted_more m.board m.made g.met.C.Cable.both_made c.args.cable.now c.loop-turn.cable c.clock.new.self _
           c.loop-turn.digits _ c.in_ok-tdo.ensures.clocked n);
     }

@@ -8,10 +8,10 @@ use Rattle.written_cable.proofs.pin_cable.PinCable.rest.Goals as goal
 
 pub returns-in_err-stay-clause-front : goal.returns-in_err-stay-clause-front
 returns-in_err-stay-clause-front g c =
-    let m = g.C.Cable in let old = c.args.self.now in let f = c.in_err-stay.ensures.front in let k = f.made in
+    let m = g.C.Cable in let old = c.args.self.now in let f = c.in_err-stay.ensures.made in let k = f.made in
     on_err c.from_residual.result (λ rest. one_did_front (port_breakage m.breakage g.O.Paper.failed) m.board m.made g.O.Paper.shown old c.stay.new.cable old.tap (Stays c.args.n)
     (stay_inputs old.tap c.args.n) (λ far. refl) (λ far. refl) rest f.front f.rest k.clocks f.parts k.made.made
-    (pins_put_front k.clocks k.made (c.in_err-stay.ensures.broken)) k.went_in k.seen)
+    (pins_put_front k.clocks k.made (c.in_err-stay.ensures.kept.broken)) k.went_in k.seen)
 
 pub returns-clause-did : goal.returns-clause-did
 returns-clause-did g c =
@@ -19,4 +19,4 @@ returns-clause-did g c =
     λ rest. one_did (port_breakage m.breakage g.O.Paper.failed) m.board m.made g.O.Paper.shown old c.stay.new.cable old.tap (Stays c.args.n)
     (stay_inputs old.tap c.args.n) (λ far. refl) (λ far. refl) rest
     h.clocks k.made.tap k.made.same k.made.made
-    (pins_put h.clocks k.made c.in_ok-stay.ensures.unbroken) k.went_in k.seen k.cards
+    (pins_put h.clocks k.made c.in_ok-stay.ensures.kept.unbroken) k.went_in k.seen k.cards

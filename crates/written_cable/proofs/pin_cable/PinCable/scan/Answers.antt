@@ -11,17 +11,17 @@ use Rattle.written_cable.proofs.pin_cable.PinCable.scan.Goals as goal
 
 pub returns-in_err-_state-clause-front : goal.returns-in_err-_state-clause-front
 returns-in_err-_state-clause-front g c =
-    let m = g.C.Cable in let old = c.args.self.now in let f = c.in_err-_state.ensures.front.front in let k = f.made in let s = scan_of c.args.register c.args.settings.now c.args.bits.now in
+    let m = g.C.Cable in let old = c.args.self.now in let f = c.in_err-_state.ensures.scanned.front in let k = f.made in let s = scan_of c.args.register c.args.settings.now c.args.bits.now in
     let same = same_scan old.base c.args.register c.args.settings.now c.as_bits.result.now c.args.bits.now c.is_instruction.result c.len.result c.stop.result
     c.pads.result.now c.is_instruction.ensures (rw c.len.ensures c.as_bits.ensures.own) c.stop.ensures c.pads.ensures.seen in
     on_err c.from_residual.result (scan_did_front (port_breakage m.breakage g.O.Paper.failed) m.board m.made g.O.Paper.shown old c.scan.new.cable s _ same
     f.front f.rest k.clocks f.parts k.made.made
-    (pins_put_front k.clocks k.made (c.in_err-_state.ensures.broken)) k.went_in k.seen)
+    (pins_put_front k.clocks k.made (c.in_err-_state.ensures.kept.broken)) k.went_in k.seen)
 
 pub returns-clause-did : goal.returns-clause-did
 returns-clause-did g c =
     let m = g.C.Cable in let old = c.args.self.now in let h = c.in_ok-_state.ensures.scanned in let k = h.made in
-    let p = pins_put h.clocks k.made c.in_ok-_state.ensures.unbroken in
+    let p = pins_put h.clocks k.made c.in_ok-_state.ensures.kept.unbroken in
     let b = port_breakage m.breakage g.O.Paper.failed in let s = scan_of c.args.register c.args.settings.now c.args.bits.now in let n = c.len.result in let captured = c.scan.new.captured in
     let same = same_scan old.base c.args.register c.args.settings.now c.as_bits.result.now c.args.bits.now c.is_instruction.result n c.stop.result c.pads.result.now
     c.is_instruction.ensures (rw c.len.ensures c.as_bits.ensures.own) c.stop.ensures c.pads.ensures.seen in

@@ -10,11 +10,11 @@ returns-in_err-hertz-clause-front g c =
     let m = g.C.Cable in
     on_err c.from_residual.result
     (λ rest. signal_front (port_breakage m.breakage g.O.Paper.failed) m.board m.made g.O.Paper.shown
-    (Hertz c.args.n) tt rest c.args.self.now _ c.in_err-hertz.ensures.broken c.in_err-hertz.ensures.failed.made refl)
+    (Hertz c.args.n) tt rest c.args.self.now _ c.in_err-hertz.ensures.kept.broken c.in_err-hertz.ensures.signalled.made refl)
 
 pub returns-clause-did : goal.returns-clause-did
 returns-clause-did g c =
     let m = g.C.Cable in let k = c.in_ok-hertz.ensures.signalled in
     λ rest. signal_did (port_breakage m.breakage g.O.Paper.failed) m.board m.made g.O.Paper.shown
     (Hertz c.args.n) tt rest c.args.self.now _ k.made.made k.cards k.made.tap k.made.same
-    (k.made.put.all c.in_ok-hertz.ensures.unbroken)
+    (k.made.put.all c.in_ok-hertz.ensures.kept.unbroken)

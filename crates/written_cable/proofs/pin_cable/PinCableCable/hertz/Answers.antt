@@ -1,5 +1,5 @@
 use Rattle.std.proofs.Common.{rules, refl, sym, ap, subst, ◌∙◌, [], ◌∷◌}
-use Rattle.tool_io.proofs.BytesLemmas.{on_err}
+use Rattle.scan_paths.proofs.Parts.{signal_failed}
 use Rattle.scan_paths.specs.Cables.{Tunes}
 use Rattle.stapl_meaning.specs.declared.events.Event.TheVariants.{Hertz}
 use Rattle.written_cable.specs.Pins.{port_breakage}
@@ -7,19 +7,19 @@ use Rattle.written_cable.proofs.SaidLemmas.{said_wholly, said_not, pins_failed, 
 use Rattle.written_cable.proofs.TornLemmas.{pins≢whole}
 use Rattle.written_cable.proofs.pin_cable.PinCableCable.hertz.Goals as goal
 
-pub returns-in_err-set_frequency-clause-failed : goal.returns-in_err-set_frequency-clause-failed
-returns-in_err-set_frequency-clause-failed g c =
+pub returns-in_err-set_frequency-clause-signalled : goal.returns-in_err-set_frequency-clause-signalled
+returns-in_err-set_frequency-clause-signalled g c =
     let m = g.C.Cable in
-    on_err c.from_residual.result
+    signal_failed c.from_residual.result c.from_residual.ensures.0
     (said_not (port_breakage m.breakage g.O.Paper.failed) m.board m.made g.O.Paper.shown (Tunes c.args.n)
     (Hertz c.args.n) refl tt c.args.self.now _
     (record { cable = refl; out = refl; pins = refl; base = refl }) refl refl
-    c.in_err-set_frequency.ensures.failed.cards c.in_err-set_frequency.ensures.failed.made refl (search rules))
+    c.in_err-set_frequency.ensures.signalled.cards c.in_err-set_frequency.ensures.signalled.made refl (search rules))
 
-pub returns-in_err-finish-clause-failed : goal.returns-in_err-finish-clause-failed
-returns-in_err-finish-clause-failed g c =
+pub returns-in_err-finish-clause-signalled : goal.returns-in_err-finish-clause-signalled
+returns-in_err-finish-clause-signalled g c =
     let m = g.C.Cable in let f = c.finish.ensures in
-    on_err c.from_residual-in_err-finish.result
+    signal_failed c.from_residual-in_err-finish.result c.from_residual-in_err-finish.ensures.0
     (pins_failed (port_breakage m.breakage g.O.Paper.failed) m.board m.made g.O.Paper.shown (Tunes c.args.n)
     (Hertz c.args.n) refl tt c.args.self.now _
     (record { cable = f.same.cable; out = f.same.out; pins = f.same.pins; base = f.same.base }) f.tap f.over
@@ -28,10 +28,10 @@ returns-in_err-finish-clause-failed g c =
     (sym f.cable) c.in_ok-set_frequency.ensures.signalled.made) c.requires
     (λ e. pins≢whole (sym c.in_err-finish.ensures.broken ∙ e)) c.in_err-finish.ensures.front)
 
-pub returns-in_err-put_hertz-clause-failed : goal.returns-in_err-put_hertz-clause-failed
-returns-in_err-put_hertz-clause-failed g c =
+pub returns-in_err-put_hertz-clause-signalled : goal.returns-in_err-put_hertz-clause-signalled
+returns-in_err-put_hertz-clause-signalled g c =
     let m = g.C.Cable in let f = c.finish.ensures in
-    on_err c.from_residual-in_err-put_hertz.result
+    signal_failed c.from_residual-in_err-put_hertz.result c.from_residual-in_err-put_hertz.ensures.0
     (line_failed (port_breakage m.breakage g.O.Paper.failed) m.board m.made g.O.Paper.shown (Tunes c.args.n)
     (Hertz c.args.n) refl tt c.args.self.now _
     (record { cable = f.same.cable; out = f.same.out; pins = f.same.pins; base = f.same.base }) f.tap

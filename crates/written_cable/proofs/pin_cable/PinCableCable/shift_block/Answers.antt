@@ -1,17 +1,17 @@
 use Rattle.std.proofs.Common.{refl, rules}
-use Rattle.tool_io.proofs.BytesLemmas.{on_err}
+use Rattle.scan_paths.proofs.Parts.{block_failed}
 use Rattle.written_cable.specs.Pins.{port_breakage}
 use Rattle.written_cable.proofs.BlockLemmas.{front_by_line, front_by_pins, shifted_quietly, shifted_noted}
 use Rattle.written_cable.proofs.pin_cable.PinCableCable.shift_block.Goals as goal
 
-pub returns-in_err-tdo-clause-failed : goal.returns-in_err-tdo-clause-failed
-returns-in_err-tdo-clause-failed g c =
+pub returns-in_err-tdo-clause-shifted : goal.returns-in_err-tdo-clause-shifted
+returns-in_err-tdo-clause-shifted g c =
     let m = g.C.Cable in
     let b = port_breakage m.breakage g.O.Paper.failed in
-    on_err c.from_residual.result
+    block_failed c.from_residual.result c.from_residual.ensures.0
     (front_by_line b g.O.Paper.shown m.board m.made c.args.self.now _
     (record { cable = refl; out = refl; pins = refl; base = refl }) refl refl _ refl
-    (search rules) c.in_err-tdo.ensures.failed)
+    (search rules) c.in_err-tdo.ensures.shifted)
 
 pub returns-then-not-self-clause-shifted : goal.returns-then-not-self-clause-shifted
 returns-then-not-self-clause-shifted g c =
@@ -21,11 +21,11 @@ returns-then-not-self-clause-shifted g c =
     (record { cable = refl; out = refl; pins = refl; base = refl }) refl refl _ _
     (search rules) refl refl c.requires.whole (search rules) c.in_ok-tdo.ensures.shifted
 
-pub returns-in_err-note_block-clause-failed : goal.returns-in_err-note_block-clause-failed
-returns-in_err-note_block-clause-failed g c =
+pub returns-in_err-note_block-clause-shifted : goal.returns-in_err-note_block-clause-shifted
+returns-in_err-note_block-clause-shifted g c =
     let m = g.C.Cable in
     let b = port_breakage m.breakage g.O.Paper.failed in
-    on_err c.from_residual-in_err-note_block.result
+    block_failed c.from_residual-in_err-note_block.result c.from_residual-in_err-note_block.ensures.0
     (front_by_pins b g.O.Paper.shown m.board m.made c.args.self.now _
     (record {
       cable = refl;

@@ -1,5 +1,5 @@
 use Rattle.std.proofs.Common.{rules, refl, sym, ap, subst, ◌∙◌, [], ◌∷◌}
-use Rattle.tool_io.proofs.BytesLemmas.{on_err}
+use Rattle.scan_paths.proofs.Parts.{signal_failed}
 use Rattle.scan_paths.specs.Cables.{Waits}
 use Rattle.stapl_meaning.specs.declared.events.Event.TheVariants.{Usec}
 use Rattle.written_cable.specs.Pins.{port_breakage}
@@ -7,18 +7,18 @@ use Rattle.written_cable.proofs.SaidLemmas.{said_wholly, said_not, pins_failed, 
 use Rattle.written_cable.proofs.TornLemmas.{pins≢whole}
 use Rattle.written_cable.proofs.pin_cable.PinCableCable.usec.Goals as goal
 
-pub returns-in_err-wait_once-clause-failed : goal.returns-in_err-wait_once-clause-failed
-returns-in_err-wait_once-clause-failed g c =
+pub returns-in_err-wait_once-clause-signalled : goal.returns-in_err-wait_once-clause-signalled
+returns-in_err-wait_once-clause-signalled g c =
     let m = g.C.Cable in
-    on_err c.from_residual.result
+    signal_failed c.from_residual.result c.from_residual.ensures.0
     (said_not (port_breakage m.breakage g.O.Paper.failed) m.board m.made g.O.Paper.shown (Waits c.args.n)
     (Usec c.args.n) refl tt c.args.self.now _ (record { cable = refl; out = refl; pins = refl; base = refl }) refl refl
-    c.in_err-wait_once.ensures.failed.cards c.in_err-wait_once.ensures.failed.made refl (search rules))
+    c.in_err-wait_once.ensures.signalled.cards c.in_err-wait_once.ensures.signalled.made refl (search rules))
 
-pub returns-in_err-finish-clause-failed : goal.returns-in_err-finish-clause-failed
-returns-in_err-finish-clause-failed g c =
+pub returns-in_err-finish-clause-signalled : goal.returns-in_err-finish-clause-signalled
+returns-in_err-finish-clause-signalled g c =
     let m = g.C.Cable in let f = c.finish.ensures in
-    on_err c.from_residual-in_err-finish.result
+    signal_failed c.from_residual-in_err-finish.result c.from_residual-in_err-finish.ensures.0
     (pins_failed (port_breakage m.breakage g.O.Paper.failed) m.board m.made g.O.Paper.shown (Waits c.args.n)
     (Usec c.args.n) refl tt c.args.self.now _ (record
     { cable = f.same.cable; out = f.same.out; pins = f.same.pins; base = f.same.base }) f.tap f.over
@@ -27,10 +27,10 @@ returns-in_err-finish-clause-failed g c =
     (sym f.cable) c.in_ok-wait_once.ensures.signalled.made) c.requires
     (λ e. pins≢whole (sym c.in_err-finish.ensures.broken ∙ e)) c.in_err-finish.ensures.front)
 
-pub returns-in_err-put_usec-clause-failed : goal.returns-in_err-put_usec-clause-failed
-returns-in_err-put_usec-clause-failed g c =
+pub returns-in_err-put_usec-clause-signalled : goal.returns-in_err-put_usec-clause-signalled
+returns-in_err-put_usec-clause-signalled g c =
     let m = g.C.Cable in let f = c.finish.ensures in
-    on_err c.from_residual-in_err-put_usec.result
+    signal_failed c.from_residual-in_err-put_usec.result c.from_residual-in_err-put_usec.ensures.0
     (line_failed (port_breakage m.breakage g.O.Paper.failed) m.board m.made g.O.Paper.shown (Waits c.args.n)
     (Usec c.args.n) refl tt c.args.self.now _ (record
     { cable = f.same.cable; out = f.same.out; pins = f.same.pins; base = f.same.base }) f.tap
