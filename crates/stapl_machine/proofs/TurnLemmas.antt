@@ -1,12 +1,13 @@
 -- On parts of a turn, one after another.
-use Rattle.std.proofs.Common.{◌≡◌, ◌≤◌, ◌<◌, ℕ, zero, suc, ◌+◌, ◌-◌, Bool, true, false, cond, List, [], ◌∷◌, ◌++◌, length, drop, get_or, add-one, refl, sym, ap, subst, ◌∙◌, arith, length-drop, Option}
+use Rattle.std.proofs.Common.{◌≡◌, ◌≤◌, ◌<◌, ℕ, zero, suc, ◌+◌, ◌-◌, Bool, true, false, cond, List, [], ◌∷◌, ◌++◌, length, drop, get_or, add-one, refl, sym, ap, subst, ◌∙◌, arith, length-drop}
 use Rattle.std.specs.Prelude.{slice_get, reverse, Some, None}
 use Rattle.tap_states.specs.Tap.{is_stable_state}
 use Rattle.dev_card.specs.Scans.{BoardScan}
 use Rattle.std.proofs.lemmas.List.{append-nil, drop_more}
-use Rattle.dev_card.specs.Card.{Card}
 use Rattle.dev_card.specs.Board.{tdos}
-use Rattle.scan_paths.specs.Cables.{Signal, Breakage, whole}
+use Rattle.scan_paths.specs.Cables.{Signal, whole}
+use Rattle.scan_paths.specs.declared.cable.Cable.{Ghosts as CableOf}
+use Rattle.written_cable.specs.declared.paper.Paper.{Ghosts as PaperOf}
 use Rattle.stapl_meaning.specs.declared.events.Event.{Event}
 use Rattle.stapl_meaning.specs.declared.values.Value.{Value}
 use Rattle.stapl_meaning.specs.Deeds.{Deed, Scans, Chain, deed_events, deed_chain, deeds_events, deeds_chain, captured_on}
@@ -23,74 +24,72 @@ use Rattle.stapl_instructions.specs.declared.control.Moved.{Moved}
 use Rattle.written_cable.specs.declared.pin_cable.PinCable.{PinCable}
 use Rattle.machine_memory.specs.Acts.{state_of, operands_of, step_of}
 use Rattle.stapl_instructions.specs.Moves.{moved_to, moved_ticks}
-use Rattle.written_cable.specs.Papers.{Shown}
 use Rattle.written_cable.specs.Pins.{cable_of, tap_of, port_chain}
-use Rattle.written_cable.specs.Ports.{chain_before, Did, DidFront, Captured, Does, DoesFront}
+use Rattle.written_cable.specs.Ports.{broken_part, chain_before, Did, DidFront, Captured, Does, DoesFront}
 use Rattle.stapl_machine.specs.Turns.{rest_of, ticks_from, piece_of, turn_at, ticks_at}
 use Rattle.written_cable.proofs.DeedLemmas.{passes_none, front_none, passes_both, passes_both_front, before_both}
 
-module _ {C O : Type 0} (breakage : PinCable C O → Breakage) (board : C → Option (List Card))
-    (makes : C → List Signal → C → Type 0) (shown : O → Shown) where
+module _ {C O : Type 0} (cable : CableOf C) (paper : PaperOf O) where
   -- nothing happens
-  pub does_still : (a : PinCable C O) (turn rest : Chain → Happened) (count left : Chain → ℕ) (steps now : ℕ) → makes (cable_of a) [] (cable_of a) → breakage a ≡ whole →
-      ((k : Chain) → turn k ≡ rest k) → ((k : Chain) → now + left k ≡ steps + count k) → Does breakage board makes shown turn count a steps rest left a now
+  pub does_still : (a : PinCable C O) (turn rest : Chain → Happened) (count left : Chain → ℕ) (steps now : ℕ) → cable.made (cable_of a) [] (cable_of a) → broken_part cable paper a ≡ whole →
+      ((k : Chain) → turn k ≡ rest k) → ((k : Chain) → now + left k ≡ steps + count k) → Does cable paper turn count a steps rest left a now
   does_still a turn rest count left steps now m w t n = record {
     events = [];
     clocks = [];
-    passed = passes_none breakage board makes shown a m w;
-    does = λ more. t (port_chain board a more) ∙ with_nothing (rest (port_chain board a more));
-    ticked = λ more. n (port_chain board a more);
+    passed = passes_none cable paper a m w;
+    does = λ more. t (port_chain cable.board a more) ∙ with_nothing (rest (port_chain cable.board a more));
+    ticked = λ more. n (port_chain cable.board a more);
   }
 
-  pub front_still : (a : PinCable C O) (turn : Chain → Happened) (count : Chain → ℕ) (steps now : ℕ) → makes (cable_of a) [] (cable_of a) → breakage a ≡ whole →
-      ((k : Chain) → now ≤ steps + count k) → DoesFront breakage board makes shown turn count a steps a now
+  pub front_still : (a : PinCable C O) (turn : Chain → Happened) (count : Chain → ℕ) (steps now : ℕ) → cable.made (cable_of a) [] (cable_of a) → broken_part cable paper a ≡ whole →
+      ((k : Chain) → now ≤ steps + count k) → DoesFront cable paper turn count a steps a now
   front_still a turn count steps now m w n = record {
     events = [];
     clocks = [];
-    passed = front_none breakage board makes shown a m w;
-    rest = λ more. turn (port_chain board a more);
-    does = λ more. with_nothing (turn (port_chain board a more));
-    most = λ more. n (port_chain board a more);
+    passed = front_none cable paper a m w;
+    rest = λ more. turn (port_chain cable.board a more);
+    does = λ more. with_nothing (turn (port_chain cable.board a more));
+    most = λ more. n (port_chain cable.board a more);
   }
 
   -- deeds are done
   module _ (a b : PinCable C O) (deeds : List Deed) (turn rest : Chain → Happened) (count left : Chain → ℕ) (steps now : ℕ)
       (t : (k : Chain) → turn k ≡ with_events (deeds_events k deeds) (rest (deeds_chain k deeds))) where
-    pub does_deeds : ((k : Chain) → now + left (deeds_chain k deeds) ≡ steps + count k) → Did breakage board makes shown deeds a [] b →
-        Does breakage board makes shown turn count a steps rest left b now
+    pub does_deeds : ((k : Chain) → now + left (deeds_chain k deeds) ≡ steps + count k) → Did cable paper deeds a [] b →
+        Does cable paper turn count a steps rest left b now
     does_deeds n d = record {
       events = d.events;
       clocks = d.clocks;
       passed = d.passed;
       does = λ more.
-          (let k = chain_before breakage board makes shown a d.clocks more in
+          (let k = chain_before cable paper a d.clocks more in
           t k ∙ ap (λ (es : List Event). with_events es (rest (deeds_chain k deeds))) (d.happened more ∙ append-nil d.events)
           ∙ ap (λ (c : Chain). with_events d.events (rest c)) (d.chain more));
-      ticked = λ more. ap (λ (c : Chain). now + left c) (sym (d.chain more)) ∙ n (chain_before breakage board makes shown a d.clocks more);
+      ticked = λ more. ap (λ (c : Chain). now + left c) (sym (d.chain more)) ∙ n (chain_before cable paper a d.clocks more);
     }
 
-    pub does_deeds_front : ((k : Chain) → now ≤ steps + count k) → DidFront breakage board makes shown deeds a b → DoesFront breakage board makes shown turn count a steps b now
+    pub does_deeds_front : ((k : Chain) → now ≤ steps + count k) → DidFront cable paper deeds a b → DoesFront cable paper turn count a steps b now
     does_deeds_front n d = record {
       events = d.events;
       clocks = d.clocks;
       passed = d.passed;
-      rest = λ more. with_events (d.rest more) (rest (deeds_chain (chain_before breakage board makes shown a d.clocks more) deeds));
+      rest = λ more. with_events (d.rest more) (rest (deeds_chain (chain_before cable paper a d.clocks more) deeds));
       does = λ more.
-          (let k = chain_before breakage board makes shown a d.clocks more in
+          (let k = chain_before cable paper a d.clocks more in
           t k ∙ ap (λ (es : List Event). with_events es (rest (deeds_chain k deeds))) (d.happened more)
           ∙ sym (with_both d.events (d.rest more) (rest (deeds_chain k deeds))));
-      most = λ more. n (chain_before breakage board makes shown a d.clocks more);
+      most = λ more. n (chain_before cable paper a d.clocks more);
     }
 
   -- nothing happens, and the turn is over from where the chain is
-  pub does_still_at : (a : PinCable C O) (turn rest : Chain → Happened) (count left : Chain → ℕ) (steps now : ℕ) → makes (cable_of a) [] (cable_of a) → breakage a ≡ whole →
-      ((more : List Bool) → turn (port_chain board a more) ≡ rest (port_chain board a more)) →
-      ((more : List Bool) → now + left (port_chain board a more) ≡ steps + count (port_chain board a more)) → Does breakage board makes shown turn count a steps rest left a now
+  pub does_still_at : (a : PinCable C O) (turn rest : Chain → Happened) (count left : Chain → ℕ) (steps now : ℕ) → cable.made (cable_of a) [] (cable_of a) → broken_part cable paper a ≡ whole →
+      ((more : List Bool) → turn (port_chain cable.board a more) ≡ rest (port_chain cable.board a more)) →
+      ((more : List Bool) → now + left (port_chain cable.board a more) ≡ steps + count (port_chain cable.board a more)) → Does cable paper turn count a steps rest left a now
   does_still_at a turn rest count left steps now m w t n = record {
     events = [];
     clocks = [];
-    passed = passes_none breakage board makes shown a m w;
-    does = λ more. t more ∙ with_nothing (rest (port_chain board a more));
+    passed = passes_none cable paper a m w;
+    does = λ more. t more ∙ with_nothing (rest (port_chain cable.board a more));
     ticked = n;
   }
 
@@ -103,10 +102,10 @@ module _ {C O : Type 0} (breakage : PinCable C O → Breakage) (board : C → Op
     unstable_counts : (k : Chain) → is_stable_state k.tap ≡ false → now + 0 ≡ steps + count k
     unstable_counts k e = sym (ap (λ (c : Bool). now + (cond c (left (lands (captured_on k scan)) (deed_chain k (Scans scan))) 0)) e) ∙ n k
 
-    pub does_lack : is_stable_state (tap_of a) ≡ false → makes (cable_of a) [] (cable_of a) → breakage a ≡ whole →
-        Does breakage board makes shown turn count a steps (λ k. Lacks []) (λ k. 0) a now
+    pub does_lack : is_stable_state (tap_of a) ≡ false → cable.made (cable_of a) [] (cable_of a) → broken_part cable paper a ≡ whole →
+        Does cable paper turn count a steps (λ k. Lacks []) (λ k. 0) a now
     does_lack e m w =
-        does_still_at a turn (λ k. Lacks []) count (λ k. 0) steps now m w (λ more. unstable_is (port_chain board a more) e) (λ more. unstable_counts (port_chain board a more) e)
+        does_still_at a turn (λ k. Lacks []) count (λ k. 0) steps now m w (λ more. unstable_is (port_chain cable.board a more) e) (λ more. unstable_counts (port_chain cable.board a more) e)
 
     stable_is : (k : Chain) → is_stable_state k.tap ≡ true → turn k ≡ with_events (deeds_events k (Scans scan ∷ [])) (go (lands (captured_on k scan)) (deeds_chain k (Scans scan ∷ [])))
     stable_is k e =
@@ -116,102 +115,102 @@ module _ {C O : Type 0} (breakage : PinCable C O → Breakage) (board : C → Op
     stable_counts : (k : Chain) → is_stable_state k.tap ≡ true → now + left (lands (captured_on k scan)) (deed_chain k (Scans scan)) ≡ steps + count k
     stable_counts k e = sym (ap (λ (c : Bool). now + (cond c (left (lands (captured_on k scan)) (deed_chain k (Scans scan))) 0)) e) ∙ n k
 
-    pub does_scan : is_stable_state (tap_of a) ≡ true → (s : State) → Captured breakage board makes shown scan lands a s b →
-        Does breakage board makes shown turn count a steps (go s) (left s) b now
+    pub does_scan : is_stable_state (tap_of a) ≡ true → (s : State) → Captured cable paper scan lands a s b →
+        Does cable paper turn count a steps (go s) (left s) b now
     does_scan e s c =
         let d = c.did.did in
-        let lands_so : (more : List Bool) → lands (captured_on (chain_before breakage board makes shown a d.clocks more) scan) ≡ s = λ more. ap lands (c.did.captured_is more) ∙ sym c.landed in
+        let lands_so : (more : List Bool) → lands (captured_on (chain_before cable paper a d.clocks more) scan) ≡ s = λ more. ap lands (c.did.captured_is more) ∙ sym c.landed in
         record {
           events = d.events;
           clocks = d.clocks;
           passed = d.passed;
           does = λ more.
-              (let k = chain_before breakage board makes shown a d.clocks more in
+              (let k = chain_before cable paper a d.clocks more in
               stable_is k e
               ∙ ap (λ (es : List Event). with_events es (go (lands (captured_on k scan)) (deeds_chain k (Scans scan ∷ [])))) (d.happened more ∙ append-nil d.events)
               ∙ ap (λ (l : Chain). with_events d.events (go (lands (captured_on k scan)) l)) (d.chain more)
-              ∙ ap (λ (u : State). with_events d.events (go u (port_chain board b more))) (lands_so more));
+              ∙ ap (λ (u : State). with_events d.events (go u (port_chain cable.board b more))) (lands_so more));
           ticked = λ more.
-              (let k = chain_before breakage board makes shown a d.clocks more in
+              (let k = chain_before cable paper a d.clocks more in
               ap (λ (l : Chain). now + left s l) (sym (d.chain more)) ∙ ap (λ (u : State). now + left u (deed_chain k (Scans scan))) (sym (lands_so more)) ∙ stable_counts k e);
         }
 
-    pub does_scan_front : is_stable_state (tap_of a) ≡ true → DidFront breakage board makes shown (Scans scan ∷ []) a b →
-        DoesFront breakage board makes shown turn count a steps b now
+    pub does_scan_front : is_stable_state (tap_of a) ≡ true → DidFront cable paper (Scans scan ∷ []) a b →
+        DoesFront cable paper turn count a steps b now
     does_scan_front e d = record {
       events = d.events;
       clocks = d.clocks;
       passed = d.passed;
-      rest = λ more. let k = chain_before breakage board makes shown a d.clocks more in with_events (d.rest more) (go (lands (captured_on k scan)) (deeds_chain k (Scans scan ∷ [])));
+      rest = λ more. let k = chain_before cable paper a d.clocks more in with_events (d.rest more) (go (lands (captured_on k scan)) (deeds_chain k (Scans scan ∷ [])));
       does = λ more.
-          (let k = chain_before breakage board makes shown a d.clocks more in
+          (let k = chain_before cable paper a d.clocks more in
           let after_it : Happened = go (lands (captured_on k scan)) (deeds_chain k (Scans scan ∷ [])) in
           stable_is k e ∙ ap (λ (es : List Event). with_events es after_it) (d.happened more) ∙ sym (with_both d.events (d.rest more) after_it));
       most = λ more.
-          (let k = chain_before breakage board makes shown a d.clocks more in
+          (let k = chain_before cable paper a d.clocks more in
           let counted : now + left (lands (captured_on k scan)) (deed_chain k (Scans scan)) ≡ steps + count k = stable_counts k e in
           omega (arith, counted));
     }
 
   -- what is left, by another name
   pub does_same : {E : Type 0} (a b : PinCable C O) (turn : Chain → Happened) (count : Chain → ℕ) (steps now : ℕ) (rest : E → Chain → Happened) (left : E → Chain → ℕ) {e f : E} → e ≡ f →
-      Does breakage board makes shown turn count a steps (rest e) (left e) b now → Does breakage board makes shown turn count a steps (rest f) (left f) b now
-  does_same a b turn count steps now rest left e d = subst (λ x. Does breakage board makes shown turn count a steps (rest x) (left x) b now) e d
+      Does cable paper turn count a steps (rest e) (left e) b now → Does cable paper turn count a steps (rest f) (left f) b now
+  does_same a b turn count steps now rest left e d = subst (λ x. Does cable paper turn count a steps (rest x) (left x) b now) e d
 
   -- the whole, by another name, in front of which so many instructions were counted
   pub does_of : (a b : PinCable C O) (turn other rest : Chain → Happened) (count counted left : Chain → ℕ) (steps then now : ℕ) → ((k : Chain) → other k ≡ turn k) →
-      ((k : Chain) → then + count k ≡ steps + counted k) → Does breakage board makes shown turn count a then rest left b now → Does breakage board makes shown other counted a steps rest left b now
+      ((k : Chain) → then + count k ≡ steps + counted k) → Does cable paper turn count a then rest left b now → Does cable paper other counted a steps rest left b now
   does_of a b turn other rest count counted left steps then now e n d = record {
     events = d.events;
     clocks = d.clocks;
     passed = d.passed;
-    does = λ more. e (chain_before breakage board makes shown a d.clocks more) ∙ d.does more;
-    ticked = λ more. d.ticked more ∙ n (chain_before breakage board makes shown a d.clocks more);
+    does = λ more. e (chain_before cable paper a d.clocks more) ∙ d.does more;
+    ticked = λ more. d.ticked more ∙ n (chain_before cable paper a d.clocks more);
   }
 
   pub front_of : (a b : PinCable C O) (turn other : Chain → Happened) (count counted : Chain → ℕ) (steps then now : ℕ) → ((k : Chain) → other k ≡ turn k) →
-      ((k : Chain) → then + count k ≡ steps + counted k) → DoesFront breakage board makes shown turn count a then b now → DoesFront breakage board makes shown other counted a steps b now
+      ((k : Chain) → then + count k ≡ steps + counted k) → DoesFront cable paper turn count a then b now → DoesFront cable paper other counted a steps b now
   front_of a b turn other count counted steps then now e n d = record {
     events = d.events;
     clocks = d.clocks;
     passed = d.passed;
     rest = d.rest;
-    does = λ more. e (chain_before breakage board makes shown a d.clocks more) ∙ d.does more;
-    most = λ more. subst (λ (m : ℕ). now ≤ m) (n (chain_before breakage board makes shown a d.clocks more)) (d.most more);
+    does = λ more. e (chain_before cable paper a d.clocks more) ∙ d.does more;
+    most = λ more. subst (λ (m : ℕ). now ≤ m) (n (chain_before cable paper a d.clocks more)) (d.most more);
   }
 
   -- one part after another
-  module _ (both : (x y z : C) (front back : List Signal) → makes x front y → makes y back z →
-      makes x (front ++ back) z) where
+  module _ (both : (x y z : C) (front back : List Signal) → cable.made x front y → cable.made y back z →
+      cable.made x (front ++ back) z) where
     pub does_both : (a b c : PinCable C O) (turn middle rest : Chain → Happened) (count between left : Chain → ℕ) (steps then now : ℕ) →
-        Does breakage board makes shown turn count a steps middle between b then → Does breakage board makes shown middle between b then rest left c now →
-        Does breakage board makes shown turn count a steps rest left c now
+        Does cable paper turn count a steps middle between b then → Does cable paper middle between b then rest left c now →
+        Does cable paper turn count a steps rest left c now
     does_both a b c turn middle rest count between left steps then now p q = record {
       events = p.events ++ q.events;
       clocks = p.clocks ++ q.clocks;
-      passed = passes_both breakage board makes shown both a b c p.events q.events p.clocks q.clocks p.passed q.passed;
+      passed = passes_both cable paper both a b c p.events q.events p.clocks q.clocks p.passed q.passed;
       does = λ more.
-          ap turn (before_both breakage board makes shown both a p.clocks q.clocks more) ∙ p.does (tdos q.clocks ++ more)
-          ∙ ap (with_events p.events) (q.does more) ∙ with_both p.events q.events (rest (port_chain board c more));
+          ap turn (before_both cable paper both a p.clocks q.clocks more) ∙ p.does (tdos q.clocks ++ more)
+          ∙ ap (with_events p.events) (q.does more) ∙ with_both p.events q.events (rest (port_chain cable.board c more));
       ticked = λ more.
           q.ticked more ∙ p.ticked (tdos q.clocks ++ more)
-          ∙ ap (λ (k : Chain). steps + count k) (sym (before_both breakage board makes shown both a p.clocks q.clocks more));
+          ∙ ap (λ (k : Chain). steps + count k) (sym (before_both cable paper both a p.clocks q.clocks more));
     }
 
     pub does_both_front : (a b c : PinCable C O) (turn middle : Chain → Happened) (count between : Chain → ℕ) (steps then now : ℕ) →
-        Does breakage board makes shown turn count a steps middle between b then → DoesFront breakage board makes shown middle between b then c now →
-        DoesFront breakage board makes shown turn count a steps c now
+        Does cable paper turn count a steps middle between b then → DoesFront cable paper middle between b then c now →
+        DoesFront cable paper turn count a steps c now
     does_both_front a b c turn middle count between steps then now p q = record {
       events = p.events ++ q.events;
       clocks = p.clocks ++ q.clocks;
-      passed = passes_both_front breakage board makes shown both a b c p.events q.events p.clocks q.clocks p.passed q.passed;
+      passed = passes_both_front cable paper both a b c p.events q.events p.clocks q.clocks p.passed q.passed;
       rest = q.rest;
       does = λ more.
-          ap turn (before_both breakage board makes shown both a p.clocks q.clocks more) ∙ p.does (tdos q.clocks ++ more)
+          ap turn (before_both cable paper both a p.clocks q.clocks more) ∙ p.does (tdos q.clocks ++ more)
           ∙ ap (with_events p.events) (q.does more) ∙ with_both p.events q.events (q.rest more);
       most = λ more.
           subst (λ (m : ℕ). now ≤ m)
-          (p.ticked (tdos q.clocks ++ more) ∙ ap (λ (k : Chain). steps + count k) (sym (before_both breakage board makes shown both a p.clocks q.clocks more))) (q.most more);
+          (p.ticked (tdos q.clocks ++ more) ∙ ap (λ (k : Chain). steps + count k) (sym (before_both cable paper both a p.clocks q.clocks more))) (q.most more);
     }
 
 -- the count after an instruction

@@ -1,5 +1,5 @@
 -- What the machine does in a turn on a chain, and how many instructions it takes.
-use Rattle.std.specs.Prelude.{ℕ, ◌+◌, List, length, drop, Option, Some, None}
+use Rattle.std.specs.Prelude.{ℕ, ◌+◌, ◌<◌, ◌^◌, List, length, drop, Option, Some, None}
 use Rattle.stapl_meaning.specs.Deeds.{Chain}
 use Rattle.stapl_meaning.specs.States.{State, Happened, happened_in_piece}
 use Rattle.stapl_code.specs.declared.instr.Instr.{Instr}
@@ -12,7 +12,7 @@ use Rattle.machine_memory.specs.declared.memory.Workspace.{Workspace}
 use Rattle.stapl_instructions.specs.declared.control.Went.{Went}
 use Rattle.machine_memory.specs.Acts.{state_of, operands_of}
 use Rattle.stapl_instructions.specs.Moves.{led_on, IsClean}
-use Rattle.machine_memory.specs.RunRooms.{HoldsFrom}
+use Rattle.machine_memory.specs.RunRooms.{HasRoom, HoldsFrom}
 
 -- the rest of a turn from an instruction on, and how many instructions it takes
 abbrev pub rest_of : CodeLists → ℕ → List ℕ → Workspace → Chain → Happened
@@ -23,6 +23,12 @@ rest_of code i chosen work k =
 abbrev pub ticks_from : CodeLists → ℕ → List ℕ → Workspace → Chain → ℕ
 ticks_from code i chosen work k =
     ticks (entries_of code.procedures) (constants_of code) (length code.instrs) (drop i code.instrs) (operands_of work) (state_of chosen work) k
+
+-- The instructions of a code can be counted, and a workspace has room for it, also for what follows instruction i.
+pub record HasRoomFrom (code : CodeLists) (i : ℕ) (work : Workspace) : Type 0 where
+  pub countable : length code.instrs < 2 ^ 32
+  pub room : HasRoom code work
+  pub few : HoldsFrom code i work
 
 -- where a turn led takes no instruction more
 abbrev pub no_ticks : Chain → ℕ

@@ -1,18 +1,14 @@
 //! The machine.
-ghost use Rattle.std.specs.Prelude.{◌≡◌, ◌≢◌, ◌≤◌, ◌+◌, ◌*◌, [], false, length, OnOk, OnErr, IfOk, IfErr};
-ghost use Rattle.tool_io.specs.Causes.{HasCause, HasRisen, NeverFalls};
-ghost use Rattle.tool_io.specs.Lines.{IsWhole, SinkNeverFalls, sink_of};
-ghost use Rattle.tool_io.specs.Lines as io;
-ghost use Rattle.tap_states.specs.declared.Tap.TheVariants as taps;
-ghost use Rattle.dev_card.specs.Board.{AllIn};
-ghost use Rattle.scan_paths.specs.Cables.{whole, line, pins, WhereTold, HasPartCause, HasMadeFront, cable_faults, IsCableLast};
+ghost use Rattle.std.specs.Prelude.{◌≡◌, ◌≤◌, ◌+◌, ◌*◌, [], false, length, IfOk};
+ghost use Rattle.tool_io.specs.Causes.{HasCause};
+ghost use Rattle.tool_io.specs.Lines.{IsWhole};
+ghost use Rattle.scan_paths.specs.Cables.{whole, line, pins, HasPartCause, cable_faults, IsCableLast};
 ghost use Rattle.scan_paths.specs.Scans.{lengths_of};
-ghost use Rattle.stapl_meaning.specs.Plays.{reset_inputs};
 ghost use Rattle.stapl_code.specs.Safe.{AllBelow};
-ghost use Rattle.written_cable.specs.Papers.{IsOverSame, shown_of};
-ghost use Rattle.written_cable.specs.Resets.{IsReset, kept_digits};
-ghost use Rattle.written_cable.specs.Ports.{IfFault};
-ghost use Rattle.stapl_machine.specs.Machines.{play_of, play_ticks_of, IsPrepared, IsReady, digits_in, workspace_in, IsPlayed, IsPlayedFront};
+ghost use Rattle.written_cable.specs.OnPaper.{lines_paper};
+ghost use Rattle.written_cable.specs.Resets.{kept_digits};
+ghost use Rattle.written_cable.specs.Ports.{KeepsParts};
+ghost use Rattle.stapl_machine.specs.Machines.{play_of, play_ticks_of, IsPrepared, IsReady, IsResetCable, HasReset, digits_in, workspace_in, IsPlayedSo};
 
 use crate::runs::play_out;
 use base::Steps;
@@ -79,11 +75,7 @@ impl Machine {
         requires whole { C.breakage cable.old ≡ whole }
         requires no_digit { digits_in self.old ≡ [] }
         ensures ready { (code : _) → IsReady code self.old → IsReady code self.new }
-        ensures in_reset { OnOk result (WhereTold (C.board cable.new) (AllIn taps.Reset)) }
-        ensures reset { OnOk result (IsReset C.board C.made cable.old cable.new (digits_in self.new)) }
-        ensures front { OnErr result (HasMadeFront C.board C.made cable.old cable.new reset_inputs) }
-        ensures unbroken { OnOk result (C.breakage cable.new ≡ whole) }
-        ensures broken { OnErr result (C.breakage cable.new ≢ whole) }
+        ensures reset { HasReset C.Cable cable.old cable.new (digits_in self.new) result }
         ensures line { HasPartCause line C.line_faults C.is_line_last C.breakage cable.old cable.new }
         ensures pins { HasPartCause pins C.pin_faults C.is_pin_last C.breakage cable.old cable.new }
         ensures cause { HasCause (cable_faults C.line_faults C.pin_faults)
@@ -111,7 +103,8 @@ impl Machine {
         Digits::none()
     }
 
-    // The run over any paper.
+    // The run over any paper. It is a function of its own, since a port gives a paper back only if that is a parameter of
+    // the function that lends it.
     fn run_on<C: Cable, O: Paper, L: Ledger>(
         &mut self,
         code: &Code,
@@ -125,27 +118,13 @@ impl Machine {
     ) -> Result<Ending, Trouble>
         requires ready { IsReady code.now self.old }
         requires chosen { AllBelow (length code.now.procedures) chosen.now }
-        requires reset { WhereTold (C.board cable.old) (AllIn taps.Reset) }
-        requires whole_cable { C.breakage cable.old ≡ whole }
+        requires reset { IsResetCable C.Cable cable.old }
         requires whole { O.failed out.old ≡ false }
-        ensures same_paper { IsOverSame O.shown out.old out.new }
-        ensures whole { OnOk result (O.failed out.new ≡ false) }
-        ensures whole_cable { OnOk result (C.breakage cable.new ≡ whole) }
-        ensures played { IfOk result (λ ending. IsPlayed C.board C.made O.shown pins (digits_in self.old)
-            (lengths_of base.now)
+        ensures played { IsPlayedSo C.Cable O.Paper pins (digits_in self.old) (lengths_of base.now)
             (play_of code.now chosen.now turns) (play_ticks_of code.now chosen.now turns)
-            cable.old out.old steps.old ending cable.new out.new steps.new self.new) }
-        ensures front { OnErr result (IsPlayedFront C.board C.made O.shown pins (digits_in self.old)
-            (lengths_of base.now)
-            (play_of code.now chosen.now turns) (play_ticks_of code.now chosen.now turns)
-            cable.old out.old steps.old cable.new out.new steps.new) }
+            cable.old out.old steps.old result cable.new out.new steps.new self.new }
         ensures bounded { steps.new ≤ steps.old + (turns + 1) * length code.now.instrs }
-        ensures kept_cable { NeverFalls (cable_faults C.line_faults C.pin_faults)
-            (IsCableLast C.is_line_last C.is_pin_last) cable.old cable.new }
-        ensures kept { NeverFalls O.faults O.is_last out.old out.new }
-        ensures fault { IfErr result (λ trouble. IfFault trouble
-            (HasRisen (cable_faults C.line_faults C.pin_faults) (IsCableLast C.is_line_last C.is_pin_last)
-            cable.old cable.new) (HasRisen O.faults O.is_last out.old out.new)) }
+        ensures kept { KeepsParts C.Cable O.Paper cable.old out.old cable.new out.new result }
     {
         never_stuck();
         plays_are_bounded();
@@ -178,27 +157,13 @@ impl Machine {
     ) -> Result<Ending, Trouble>
         requires ready { IsReady code.now self.old }
         requires chosen { AllBelow (length code.now.procedures) chosen.now }
-        requires reset { WhereTold (C.board cable.old) (AllIn taps.Reset) }
-        requires whole_cable { C.breakage cable.old ≡ whole }
+        requires reset { IsResetCable C.Cable cable.old }
         requires whole { IsWhole out.old }
-        ensures same_sink { io.IsOverSame out.old out.new }
-        ensures whole { OnOk result (IsWhole out.new) }
-        ensures whole_cable { OnOk result (C.breakage cable.new ≡ whole) }
-        ensures played { IfOk result (λ ending. IsPlayed C.board C.made (shown_of K.written) pins (digits_in self.old)
-            (lengths_of base.now)
+        ensures played { IsPlayedSo C.Cable (lines_paper K.Sink) pins (digits_in self.old) (lengths_of base.now)
             (play_of code.now chosen.now turns) (play_ticks_of code.now chosen.now turns)
-            cable.old out.old steps.old ending cable.new out.new steps.new self.new) }
-        ensures front { OnErr result (IsPlayedFront C.board C.made (shown_of K.written) pins (digits_in self.old)
-            (lengths_of base.now)
-            (play_of code.now chosen.now turns) (play_ticks_of code.now chosen.now turns)
-            cable.old out.old steps.old cable.new out.new steps.new) }
+            cable.old out.old steps.old result cable.new out.new steps.new self.new }
         ensures bounded { steps.new ≤ steps.old + (turns + 1) * length code.now.instrs }
-        ensures kept_cable { NeverFalls (cable_faults C.line_faults C.pin_faults)
-            (IsCableLast C.is_line_last C.is_pin_last) cable.old cable.new }
-        ensures kept { SinkNeverFalls K.Sink out.old out.new }
-        ensures fault { IfErr result (λ trouble. IfFault trouble
-            (HasRisen (cable_faults C.line_faults C.pin_faults) (IsCableLast C.is_line_last C.is_pin_last)
-            cable.old cable.new) (HasRisen K.faults K.is_last (sink_of out.old) (sink_of out.new))) }
+        ensures kept { KeepsParts C.Cable (lines_paper K.Sink) cable.old out.old cable.new out.new result }
     {
         match self.run_on(code, chosen, base, cable, out, pins, turns, steps) {
             Ok(ending) => Ok(ending),

@@ -1,18 +1,17 @@
 //! Turns of a code.
-ghost use Rattle.std.specs.Prelude.{◌≡◌, ◌≢◌, ◌<◌, ◌≤◌, ◌+◌, ◌^◌, [], ◌∷◌, ◌++◌, map, List, ℕ, length, slice_get, IsTrue, OnOk, OnErr, IfOk};
+ghost use Rattle.std.specs.Prelude.{◌≡◌, ◌<◌, ◌≤◌, ◌+◌, ◌^◌, [], map, List, ℕ, length, slice_get, IsTrue, IfOk};
 ghost use Rattle.tap_states.specs.Tap.{is_stable_state};
-ghost use Rattle.scan_paths.specs.Cables.{whole};
-ghost use Rattle.stapl_meaning.specs.Deeds.{Chain, Deed, Goes, Scans};
+ghost use Rattle.stapl_meaning.specs.Deeds.{Chain, Goes};
 ghost use Rattle.stapl_meaning.specs.Scans.{settings_of, scan_of};
 ghost use Rattle.stapl_code.specs.Ticks.{tick_of};
 ghost use Rattle.machine_memory.specs.Acts.{state_in, state_of, states_of, told_by, stays_for, pauses_for, waited_deeds, deeds_told, RestsIn};
 ghost use Rattle.machine_memory.specs.Jobs.{CanBeDone, job_scan, job_lands, with_captured};
 ghost use Rattle.stapl_instructions.specs.Moves.{led_on, IsClean};
-ghost use Rattle.written_cable.specs.Pins.{tap_of, port_breakage};
-ghost use Rattle.machine_memory.specs.RunRooms.{HasRoom, HoldsFrom, KeepsRoom};
-ghost use Rattle.written_cable.specs.Ports.{IsInStep, IsKept, Did, DidFront, DidScan, Captured, IsDone, Keeps};
+ghost use Rattle.written_cable.specs.Pins.{tap_of};
+ghost use Rattle.machine_memory.specs.RunRooms.{HasRoom, KeepsRoom};
+ghost use Rattle.written_cable.specs.Ports.{IsOpenPort, DoesDeeds, DoesScan, DoesCapture, IsDone, Keeps};
 ghost use Rattle.stapl_machine.specs.Reaches.{after_try, ticks_after_try, IsCleanTry, after_reached, ticks_after_reached, IsReached};
-ghost use Rattle.stapl_machine.specs.Turns.{rest_of, ticks_from, no_ticks, after_it, ticks_after_it, IsCleanBehind, piece_of, turn_at, ticks_at};
+ghost use Rattle.stapl_machine.specs.Turns.{HasRoomFrom, rest_of, ticks_from, no_ticks, after_it, ticks_after_it, IsCleanBehind, piece_of, turn_at, ticks_at};
 
 use base::Steps;
 use machine_memory::effects::{Doing, ScanJob, Wait};
@@ -40,20 +39,10 @@ fn count<L: Ledger>(instr: &Instr, steps: &mut Steps<L>)
 }
 
 // Keeps the controllers in their state for so many clocks, if any are counted.
-#[tactic(auto, using(written_cable::proofs::DeedLemmas::kept_none))]
 fn rest_if<C: Cable, O: Paper>(cycles: Option<u32>, port: &mut PinCable<C, O>) -> Result<(), Failed>
-    requires whole { port_breakage C.breakage O.failed port.old ≡ whole }
-    requires in_step { IsInStep C.board port.old }
+    requires open { IsOpenPort C.Cable O.Paper port.old }
     requires stable { IsTrue (is_stable_state (tap_of port.old)) }
-    ensures in_step { OnOk result (IsInStep C.board port.new) }
-    ensures did { OnOk result ((rest : List Deed) → Did (port_breakage C.breakage O.failed) C.board C.made O.shown
-        (stays_for cycles ++ rest) port.old rest port.new) }
-    ensures front { OnErr result ((rest : List Deed) → DidFront (port_breakage C.breakage O.failed) C.board C.made
-        O.shown (stays_for cycles ++ rest) port.old port.new) }
-    ensures unbroken { OnOk result (port_breakage C.breakage O.failed port.new ≡ whole) }
-    ensures broken { OnErr result (port_breakage C.breakage O.failed port.new ≢ whole) }
-    ensures kept { IsKept (port_breakage C.breakage O.failed) C.line_faults C.is_line_last
-        C.pin_faults C.is_pin_last O.shown O.faults O.is_last port.old port.new }
+    ensures { DoesDeeds C.Cable O.Paper (stays_for cycles) port.old port.new result }
 {
     match cycles {
         Some(n) => port.rest(n),
@@ -62,19 +51,9 @@ fn rest_if<C: Cable, O: Paper>(cycles: Option<u32>, port: &mut PinCable<C, O>) -
 }
 
 // Waits for so many microseconds, if any are counted.
-#[tactic(auto, using(written_cable::proofs::DeedLemmas::kept_none))]
 fn pause_if<C: Cable, O: Paper>(usec: Option<u32>, port: &mut PinCable<C, O>) -> Result<(), Failed>
-    requires whole { port_breakage C.breakage O.failed port.old ≡ whole }
-    requires in_step { IsInStep C.board port.old }
-    ensures in_step { OnOk result (IsInStep C.board port.new) }
-    ensures did { OnOk result ((rest : List Deed) → Did (port_breakage C.breakage O.failed) C.board C.made O.shown
-        (pauses_for usec ++ rest) port.old rest port.new) }
-    ensures front { OnErr result ((rest : List Deed) → DidFront (port_breakage C.breakage O.failed) C.board C.made
-        O.shown (pauses_for usec ++ rest) port.old port.new) }
-    ensures unbroken { OnOk result (port_breakage C.breakage O.failed port.new ≡ whole) }
-    ensures broken { OnErr result (port_breakage C.breakage O.failed port.new ≢ whole) }
-    ensures kept { IsKept (port_breakage C.breakage O.failed) C.line_faults C.is_line_last
-        C.pin_faults C.is_pin_last O.shown O.faults O.is_last port.old port.new }
+    requires { IsOpenPort C.Cable O.Paper port.old }
+    ensures { DoesDeeds C.Cable O.Paper (pauses_for usec) port.old port.new result }
 {
     match usec {
         Some(n) => port.pause(n),
@@ -83,20 +62,10 @@ fn pause_if<C: Cable, O: Paper>(usec: Option<u32>, port: &mut PinCable<C, O>) ->
 }
 
 // Carries out a WAIT.
-#[tactic(auto, using(written_cable::proofs::DeedLemmas::kept_both))]
 fn wait<C: Cable, O: Paper>(wait: Wait, port: &mut PinCable<C, O>) -> Result<(), Failed>
-    requires whole { port_breakage C.breakage O.failed port.old ≡ whole }
-    requires in_step { IsInStep C.board port.old }
+    requires open { IsOpenPort C.Cable O.Paper port.old }
     requires stable { IsTrue (is_stable_state wait.at) }
-    ensures in_step { OnOk result (IsInStep C.board port.new) }
-    ensures did { OnOk result (Did (port_breakage C.breakage O.failed) C.board C.made O.shown
-        (waited_deeds wait) port.old [] port.new) }
-    ensures front { OnErr result (DidFront (port_breakage C.breakage O.failed) C.board C.made O.shown
-        (waited_deeds wait) port.old port.new) }
-    ensures unbroken { OnOk result (port_breakage C.breakage O.failed port.new ≡ whole) }
-    ensures broken { OnErr result (port_breakage C.breakage O.failed port.new ≢ whole) }
-    ensures kept { IsKept (port_breakage C.breakage O.failed) C.line_faults C.is_line_last
-        C.pin_faults C.is_pin_last O.shown O.faults O.is_last port.old port.new }
+    ensures { DoesDeeds C.Cable O.Paper (waited_deeds wait) port.old port.new result }
 {
     port.go(wait.at)?;
     rest_if(wait.cycles, port)?;
@@ -106,19 +75,9 @@ fn wait<C: Cable, O: Paper>(wait: Wait, port: &mut PinCable<C, O>) -> Result<(),
 }
 
 // Moves to one state after another.
-#[tactic(auto, using(written_cable::proofs::DeedLemmas::kept_both))]
 fn go_through<C: Cable, O: Paper>(states: &[Tap], port: &mut PinCable<C, O>) -> Result<(), Failed>
-    requires whole { port_breakage C.breakage O.failed port.old ≡ whole }
-    requires in_step { IsInStep C.board port.old }
-    ensures in_step { OnOk result (IsInStep C.board port.new) }
-    ensures did { OnOk result (Did (port_breakage C.breakage O.failed) C.board C.made O.shown
-        (map Goes states.now) port.old [] port.new) }
-    ensures front { OnErr result (DidFront (port_breakage C.breakage O.failed) C.board C.made O.shown
-        (map Goes states.now) port.old port.new) }
-    ensures unbroken { OnOk result (port_breakage C.breakage O.failed port.new ≡ whole) }
-    ensures broken { OnErr result (port_breakage C.breakage O.failed port.new ≢ whole) }
-    ensures kept { IsKept (port_breakage C.breakage O.failed) C.line_faults C.is_line_last
-        C.pin_faults C.is_pin_last O.shown O.faults O.is_last port.old port.new }
+    requires { IsOpenPort C.Cable O.Paper port.old }
+    ensures { DoesDeeds C.Cable O.Paper (map Goes states.now) port.old port.new result }
 {
     for i in 0..states.len() {
         port.go(states[i])?;
@@ -145,20 +104,11 @@ fn perform<C: Cable, O: Paper>(
     doing: Doing,
     port: &mut PinCable<C, O>,
 ) -> Result<(), Failed>
-    requires whole { port_breakage C.breakage O.failed port.old ≡ whole }
-    requires in_step { IsInStep C.board port.old }
+    requires open { IsOpenPort C.Cable O.Paper port.old }
     requires rests { RestsIn doing }
-    ensures in_step { OnOk result (IsInStep C.board port.new) }
-    ensures did { OnOk result (Did (port_breakage C.breakage O.failed) C.board C.made O.shown
+    ensures { DoesDeeds C.Cable O.Paper
         (deeds_told (told_by code.now instr.now text.now memory.now) memory.now.variables.items doing)
-        port.old [] port.new) }
-    ensures front { OnErr result (DidFront (port_breakage C.breakage O.failed) C.board C.made O.shown
-        (deeds_told (told_by code.now instr.now text.now memory.now) memory.now.variables.items doing)
-        port.old port.new) }
-    ensures unbroken { OnOk result (port_breakage C.breakage O.failed port.new ≡ whole) }
-    ensures broken { OnErr result (port_breakage C.breakage O.failed port.new ≢ whole) }
-    ensures kept { IsKept (port_breakage C.breakage O.failed) C.line_faults C.is_line_last
-        C.pin_faults C.is_pin_last O.shown O.faults O.is_last port.old port.new }
+        port.old port.new result }
 {
     match doing {
         Doing::Prints => port.print(text),
@@ -176,22 +126,14 @@ fn shift<C: Cable, O: Paper>(
     shifted: &mut Shifted,
     port: &mut PinCable<C, O>,
 ) -> Result<(), Failed>
-    requires whole { port_breakage C.breakage O.failed port.old ≡ whole }
-    requires in_step { IsInStep C.board port.old }
+    requires open { IsOpenPort C.Cable O.Paper port.old }
     requires stable { IsTrue (is_stable_state (tap_of port.old)) }
     requires some { 1 ≤ length shifted.old.data }
     requires room { length shifted.old.captured ≡ length shifted.old.data }
-    ensures in_step { OnOk result (IsInStep C.board port.new) }
-    ensures did { OnOk result (DidScan (port_breakage C.breakage O.failed) C.board C.made O.shown
-        (scan_of register settings.now shifted.old.data) shifted.new.captured port.old port.new) }
-    ensures front { OnErr result (DidFront (port_breakage C.breakage O.failed) C.board C.made O.shown
-        (Scans (scan_of register settings.now shifted.old.data) ∷ []) port.old port.new) }
+    ensures did { DoesScan C.Cable O.Paper (scan_of register settings.now shifted.old.data) shifted.new.captured
+        port.old port.new result }
     ensures kept_bits { shifted.new ≡ record shifted.old { captured = shifted.new.captured } }
     ensures length { length shifted.new.captured ≡ length shifted.old.captured }
-    ensures unbroken { OnOk result (port_breakage C.breakage O.failed port.new ≡ whole) }
-    ensures broken { OnErr result (port_breakage C.breakage O.failed port.new ≢ whole) }
-    ensures kept { IsKept (port_breakage C.breakage O.failed) C.line_faults C.is_line_last
-        C.pin_faults C.is_pin_last O.shown O.faults O.is_last port.old port.new }
 {
     port.scan(register, settings, &shifted.data, &mut shifted.captured)
 }
@@ -202,24 +144,15 @@ fn shift_in<C: Cable, O: Paper>(
     memory: &mut Memory,
     port: &mut PinCable<C, O>,
 ) -> Result<(), Failed>
-    requires whole { port_breakage C.breakage O.failed port.old ≡ whole }
-    requires in_step { IsInStep C.board port.old }
+    requires open { IsOpenPort C.Cable O.Paper port.old }
     requires stable { IsTrue (is_stable_state (tap_of port.old)) }
     requires some { 1 ≤ length memory.old.shifted.data }
     requires room { length memory.old.shifted.captured ≡ length memory.old.shifted.data }
-    ensures in_step { OnOk result (IsInStep C.board port.new) }
-    ensures did { OnOk result ((chosen : List ℕ) → DidScan (port_breakage C.breakage O.failed) C.board C.made O.shown
+    ensures did { (chosen : List ℕ) → DoesScan C.Cable O.Paper
         (scan_of register (settings_of register (state_in chosen memory.old)) memory.old.shifted.data)
-        memory.new.shifted.captured port.old port.new) }
-    ensures front { OnErr result ((chosen : List ℕ) → DidFront (port_breakage C.breakage O.failed) C.board C.made O.shown
-        (Scans (scan_of register (settings_of register (state_in chosen memory.old)) memory.old.shifted.data) ∷ [])
-        port.old port.new) }
+        memory.new.shifted.captured port.old port.new result }
     ensures same { memory.new ≡ with_captured memory.old memory.new.shifted.captured }
     ensures length { length memory.new.shifted.captured ≡ length memory.old.shifted.captured }
-    ensures unbroken { OnOk result (port_breakage C.breakage O.failed port.new ≡ whole) }
-    ensures broken { OnErr result (port_breakage C.breakage O.failed port.new ≢ whole) }
-    ensures kept { IsKept (port_breakage C.breakage O.failed) C.line_faults C.is_line_last
-        C.pin_faults C.is_pin_last O.shown O.faults O.is_last port.old port.new }
 {
     match register {
         Register::Data => shift(register, &memory.dr, &mut memory.shifted, port),
@@ -233,21 +166,13 @@ fn capture<C: Cable, O: Paper>(
     memory: &mut Memory,
     port: &mut PinCable<C, O>,
 ) -> Result<(), Failed>
-    requires whole { port_breakage C.breakage O.failed port.old ≡ whole }
-    requires in_step { IsInStep C.board port.old }
+    requires open { IsOpenPort C.Cable O.Paper port.old }
     requires stable { IsTrue (is_stable_state (tap_of port.old)) }
     requires job { CanBeDone memory.old.variables.items memory.old.shifted job }
-    ensures in_step { OnOk result (IsInStep C.board port.new) }
-    ensures captured { OnOk result ((chosen : List ℕ) → Captured (port_breakage C.breakage O.failed) C.board C.made
-        O.shown (job_scan memory.old.shifted job (state_in chosen memory.old))
+    ensures { (chosen : List ℕ) → DoesCapture C.Cable O.Paper
+        (job_scan memory.old.shifted job (state_in chosen memory.old))
         (job_lands memory.old.shifted job (state_in chosen memory.old))
-        port.old (state_in chosen memory.new) port.new) }
-    ensures front { OnErr result ((chosen : List ℕ) → DidFront (port_breakage C.breakage O.failed) C.board C.made
-        O.shown (Scans (job_scan memory.old.shifted job (state_in chosen memory.old)) ∷ []) port.old port.new) }
-    ensures unbroken { OnOk result (port_breakage C.breakage O.failed port.new ≡ whole) }
-    ensures broken { OnErr result (port_breakage C.breakage O.failed port.new ≢ whole) }
-    ensures kept { IsKept (port_breakage C.breakage O.failed) C.line_faults C.is_line_last
-        C.pin_faults C.is_pin_last O.shown O.faults O.is_last port.old port.new }
+        port.old (state_in chosen memory.new) port.new result }
 {
     shift_in(job.register, memory, port)?;
     land(memory, job);
@@ -265,18 +190,14 @@ fn carry_out<C: Cable, O: Paper, L: Ledger>(
     steps: &mut Steps<L>,
 ) -> Result<Option<Went>, Trouble>
     requires inside { i < length code.now.instrs }
-    requires countable { length code.now.instrs < 2 ^ 32 }
-    requires whole { port_breakage C.breakage O.failed port.old ≡ whole }
-    requires in_step { IsInStep C.board port.old }
-    requires room { HasRoom code.now work.old }
-    requires few { HoldsFrom code.now i work.old }
-    ensures does { IsDone (port_breakage C.breakage O.failed) C.board C.made O.shown
+    requires open { IsOpenPort C.Cable O.Paper port.old }
+    requires room { HasRoomFrom code.now i work.old }
+    ensures does { IsDone C.Cable O.Paper
         (rest_of code.now i chosen.now work.old) (ticks_from code.now i chosen.now work.old) port.old steps.old result
         (after_it code.now i chosen.now work.new) (ticks_after_it code.now i chosen.now work.new) port.new steps.new }
     ensures clean { IfOk result (λ end. IsCleanBehind code.now i end work.new) }
     ensures room { KeepsRoom work.old work.new }
-    ensures keeps { Keeps (port_breakage C.breakage O.failed) C.board C.line_faults C.is_line_last
-        C.pin_faults C.is_pin_last O.shown O.faults O.is_last port.old port.new result }
+    ensures keeps { Keeps C.Cable O.Paper port.old port.new result }
 {
     let instr = &code.instrs.as_slice()[i];
     count(instr, steps);
@@ -308,9 +229,7 @@ fn try_at<L: Ledger>(
     steps: &mut Steps<L>,
 ) -> Tried
     requires inside { i < length code.now.instrs }
-    requires countable { length code.now.instrs < 2 ^ 32 }
-    requires room { HasRoom code.now work.old }
-    requires few { HoldsFrom code.now i work.old }
+    requires room { HasRoomFrom code.now i work.old }
     ensures does { (chosen : List ℕ) (k : Chain) →
         rest_of code.now i chosen work.old k ≡ after_try code.now i chosen result work.new k }
     ensures ticks { (chosen : List ℕ) (k : Chain) →
@@ -353,9 +272,7 @@ fn carry_out_common<L: Ledger>(
     work: &mut Workspace,
     steps: &mut Steps<L>,
 ) -> Reached
-    requires countable { length code.now.instrs < 2 ^ 32 }
-    requires room { HasRoom code.now work.old }
-    requires few { HoldsFrom code.now from work.old }
+    requires { HasRoomFrom code.now from work.old }
     ensures does { (chosen : List ℕ) (k : Chain) →
         rest_of code.now from chosen work.old k ≡ after_reached code.now chosen result work.new k }
     ensures ticks { (chosen : List ℕ) (k : Chain) →
@@ -384,18 +301,15 @@ pub fn rest_of_turn<C: Cable, O: Paper, L: Ledger>(
     port: &mut PinCable<C, O>,
     steps: &mut Steps<L>,
 ) -> Result<Went, Trouble>
-    requires countable { length code.now.instrs < 2 ^ 32 }
-    requires whole { port_breakage C.breakage O.failed port.old ≡ whole }
-    requires in_step { IsInStep C.board port.old }
-    requires room { HasRoom code.now work.old }
-    requires few { HoldsFrom code.now from work.old }
-    ensures does { IsDone (port_breakage C.breakage O.failed) C.board C.made O.shown
+    requires open { IsOpenPort C.Cable O.Paper port.old }
+    requires room { HasRoomFrom code.now from work.old }
+    ensures does { IsDone C.Cable O.Paper
         (rest_of code.now from chosen.now work.old) (ticks_from code.now from chosen.now work.old)
-        port.old steps.old result (λ went. led_on went (state_of chosen.now work.new)) (λ went. no_ticks) port.new steps.new }
+        port.old steps.old result (λ went. led_on went (state_of chosen.now work.new)) (λ went. no_ticks)
+        port.new steps.new }
     ensures clean { IfOk result (λ went. IsClean went work.new.operands.items) }
     ensures room { KeepsRoom work.old work.new }
-    ensures keeps { Keeps (port_breakage C.breakage O.failed) C.board C.line_faults C.is_line_last
-        C.pin_faults C.is_pin_last O.shown O.faults O.is_last port.old port.new result }
+    ensures keeps { Keeps C.Cable O.Paper port.old port.new result }
 {
     let mut place = from;
     'parts: loop {
@@ -434,17 +348,15 @@ pub fn turn<C: Cable, O: Paper, L: Ledger>(
 ) -> Result<Went, Trouble>
     requires countable { length code.now.instrs < 2 ^ 32 }
     requires none { work.old.operands.items ≡ [] }
-    requires whole { port_breakage C.breakage O.failed port.old ≡ whole }
-    requires in_step { IsInStep C.board port.old }
+    requires open { IsOpenPort C.Cable O.Paper port.old }
     requires room { HasRoom code.now work.old }
-    ensures does { IsDone (port_breakage C.breakage O.failed) C.board C.made O.shown
+    ensures does { IsDone C.Cable O.Paper
         (turn_at code.now place (state_of chosen.now work.old)) (ticks_at code.now place (state_of chosen.now work.old))
         port.old steps.old result
         (λ went. led_on went (state_of chosen.now work.new)) (λ went. no_ticks) port.new steps.new }
     ensures clean { IfOk result (λ went. IsClean went work.new.operands.items) }
     ensures room { KeepsRoom work.old work.new }
-    ensures keeps { Keeps (port_breakage C.breakage O.failed) C.board C.line_faults C.is_line_last
-        C.pin_faults C.is_pin_last O.shown O.faults O.is_last port.old port.new result }
+    ensures keeps { Keeps C.Cable O.Paper port.old port.new result }
 {
     match piece_at(code.instrs.as_slice(), place as usize) {
         Some(piece) => {

@@ -8,13 +8,14 @@ use Rattle.tap_states.specs.declared.Tap.TheVariants.{Reset}
 use Rattle.dev_card.specs.Board.{board_after, tdos}
 use Rattle.dev_card.specs.FarEnds.{Told, far_end}
 use Rattle.dev_card.specs.Padding.{BaseLengths}
-use Rattle.scan_paths.specs.Cables.{Signal, Breakage}
+use Rattle.scan_paths.specs.declared.cable.Cable.{Ghosts as CableOf}
+use Rattle.scan_paths.specs.Cables.{Signal}
 use Rattle.stapl_meaning.specs.Deeds.{Chain}
 use Rattle.stapl_meaning.specs.States.{State, Happened, Led, Finished, Broke, Lacks}
 use Rattle.stapl_meaning.specs.Plays.{Run, after, goes_on, reset_inputs}
 use Rattle.stapl_meaning.specs.declared.values.Held.{Held}
 use Rattle.stapl_code.specs.declared.raw.CodeLists.{CodeLists}
-use Rattle.written_cable.specs.Papers.{Shown}
+use Rattle.written_cable.specs.declared.paper.Paper.{Ghosts as PaperOf}
 use Rattle.written_cable.specs.declared.pin_cable.PinCable.{PinCable}
 use Rattle.written_cable.specs.Pins.{cable_of, tap_of, base_of, port_chain}
 use Rattle.written_cable.specs.Resets.{IsReset}
@@ -43,41 +44,41 @@ alike_outcome (Finished events ending u c) s t k l go = refl
 alike_outcome (Broke events f u c) s t k l go = refl
 alike_outcome (Lacks events) s t k l go = refl
 
-module _ {C O : Type 0} (breakage : PinCable C O → Breakage) (board : C → Option (List Card)) (makes : C → List Signal → C → Type 0) (shown : O → Shown) where
+module _ {C O : Type 0} (cable : CableOf C) (paper : PaperOf O) where
   -- all turns of a run are done
   pub run_place : (a b : PinCable C O) (code : CodeLists) (all : Chain → Run) (count : Chain → ℕ) (left place : ℕ) (u : State) (steps now : ℕ) → left ≡ 0 →
-      Runs breakage board makes shown all count a steps (run_of code left place u) (run_ticks_of code left place u) b now →
-      GoesOnAt breakage board makes shown all a place b
+      Runs cable paper all count a steps (run_of code left place u) (run_ticks_of code left place u) b now →
+      GoesOnAt cable paper all a place b
   run_place a b code all count left place u steps now e p = record {
     events = p.events;
     clocks = p.clocks;
     passed = p.passed;
-    goes = λ more. ap (λ (r : Run). r.outcome) (p.runs more ∙ ap (λ (n : ℕ). after p.events (run_of code n place u (port_chain board b more))) e);
+    goes = λ more. ap (λ (r : Run). r.outcome) (p.runs more ∙ ap (λ (n : ℕ). after p.events (run_of code n place u (port_chain cable.board b more))) e);
   }
 
   -- the same run by another name
   pub place_same : (a b : PinCable C O) (all other : Chain → Run) (place : ℕ) → ((k : Chain) → all k ≡ other k) →
-      GoesOnAt breakage board makes shown all a place b → GoesOnAt breakage board makes shown other a place b
+      GoesOnAt cable paper all a place b → GoesOnAt cable paper other a place b
   place_same a b all other place e p = record {
     events = p.events;
     clocks = p.clocks;
     passed = p.passed;
-    goes = λ more. ap (λ (r : Run). r.outcome) (sym (e (chain_before breakage board makes shown a p.clocks more))) ∙ p.goes more;
+    goes = λ more. ap (λ (r : Run). r.outcome) (sym (e (chain_before cable paper a p.clocks more))) ∙ p.goes more;
   }
 
   -- a turn that was done, and a run after it
-  pub place_then : ((x y z : C) (front back : List Signal) → makes x front y → makes y back z → makes x (front ++ back) z) →
+  pub place_then : ((x y z : C) (front back : List Signal) → cable.made x front y → cable.made y back z → cable.made x (front ++ back) z) →
       (a b c : PinCable C O) (all : Chain → Run) (s u : State) (go : ℕ → State → Chain → Run) (turn rest : Chain → Happened) (count left : Chain → ℕ) (steps now place : ℕ) →
-      ((k : Chain) → all k ≡ goes_on (turn k) s k go) → Does breakage board makes shown turn count a steps rest left b now →
-      GoesOnAt breakage board makes shown (λ k. goes_on (rest k) u k go) b place c → GoesOnAt breakage board makes shown all a place c
+      ((k : Chain) → all k ≡ goes_on (turn k) s k go) → Does cable paper turn count a steps rest left b now →
+      GoesOnAt cable paper (λ k. goes_on (rest k) u k go) b place c → GoesOnAt cable paper all a place c
   place_then both a b c all s u go turn rest count left steps now place opened d q = record {
     events = d.events ++ q.events;
     clocks = d.clocks ++ q.clocks;
-    passed = passes_both breakage board makes shown both a b c d.events q.events d.clocks q.clocks d.passed q.passed;
+    passed = passes_both cable paper both a b c d.events q.events d.clocks q.clocks d.passed q.passed;
     goes = λ more.
-        (let k : Chain = chain_before breakage board makes shown a d.clocks (tdos q.clocks ++ more) in
-        let l : Chain = chain_before breakage board makes shown b q.clocks more in
-        ap (λ (x : Chain). (all x).outcome) (before_both breakage board makes shown both a d.clocks q.clocks more)
+        (let k : Chain = chain_before cable paper a d.clocks (tdos q.clocks ++ more) in
+        let l : Chain = chain_before cable paper b q.clocks more in
+        ap (λ (x : Chain). (all x).outcome) (before_both cable paper both a d.clocks q.clocks more)
         ∙ ap (λ (r : Run). r.outcome) (opened k)
         ∙ ap (λ (h : Happened). (goes_on h s k go).outcome) (d.does (tdos q.clocks ++ more))
         ∙ ap (λ (r : Run). r.outcome) (goes_after d.events (rest l) s k go)
@@ -86,13 +87,13 @@ module _ {C O : Type 0} (breakage : PinCable C O → Breakage) (board : C → Op
   }
 
   -- over a port over a cable that tells its board
-  pub goes_over : (a b : PinCable C O) (cable : C) (base : BaseLengths) (all : Chain → Run) (place : ℕ) → cable_of a ≡ cable → tap_of a ≡ Reset → base_of a ≡ base →
-      GoesOnAt breakage board makes shown all a place b → GoesOnOver board base all cable place
-  goes_over a b cable base all place over tap pads p = λ cs told.
-      (let there : board (cable_of a) ≡ Some cs = ap board over ∙ told in
-      let is : chain_before breakage board makes shown a p.clocks [] ≡ record { tap = Reset; base = base; far = Told cs } =
-      ap (λ (t : Tap). let k : Chain = record { tap = t; base = base_of a; far = far_end (board (cable_of a)) (tdos p.clocks ++ []) } in k) tap
-      ∙ ap (λ (l : BaseLengths). let k : Chain = record { tap = Reset; base = l; far = far_end (board (cable_of a)) (tdos p.clocks ++ []) } in k) pads
+  pub goes_over : (a b : PinCable C O) (wire : C) (base : BaseLengths) (all : Chain → Run) (place : ℕ) → cable_of a ≡ wire → tap_of a ≡ Reset → base_of a ≡ base →
+      GoesOnAt cable paper all a place b → GoesOnOver cable.board base all wire place
+  goes_over a b wire base all place over tap pads p = λ cs told.
+      (let there : cable.board (cable_of a) ≡ Some cs = ap cable.board over ∙ told in
+      let is : chain_before cable paper a p.clocks [] ≡ record { tap = Reset; base = base; far = Told cs } =
+      ap (λ (t : Tap). let k : Chain = record { tap = t; base = base_of a; far = far_end (cable.board (cable_of a)) (tdos p.clocks ++ []) } in k) tap
+      ∙ ap (λ (l : BaseLengths). let k : Chain = record { tap = Reset; base = l; far = far_end (cable.board (cable_of a)) (tdos p.clocks ++ []) } in k) pads
       ∙ ap (λ (o : Option (List Card)). let k : Chain = record { tap = Reset; base = base; far = far_end o (tdos p.clocks ++ []) } in k) there in
       ap (λ (k : Chain). (all k).outcome) (sym is) ∙ p.goes [])
 

@@ -5,22 +5,21 @@ use Rattle.dev_card.specs.Card.{Card}
 use Rattle.dev_card.specs.Board.{Clock}
 use Rattle.dev_card.specs.FarEnds.{Told}
 use Rattle.dev_card.specs.Padding.{BaseLengths}
-use Rattle.scan_paths.specs.Cables.{Signal, Breakage}
+use Rattle.scan_paths.specs.declared.cable.Cable.{Ghosts as CableOf}
 use Rattle.stapl_meaning.specs.declared.events.Event.{Event}
 use Rattle.stapl_meaning.specs.Deeds.{Chain}
 use Rattle.stapl_meaning.specs.Plays.{Run, Going, chain_reset}
-use Rattle.written_cable.specs.Papers.{Shown}
+use Rattle.written_cable.specs.declared.paper.Paper.{Ghosts as PaperOf}
 use Rattle.written_cable.specs.declared.pin_cable.PinCable.{PinCable}
 use Rattle.written_cable.specs.Ports.{Passes, chain_before}
 
 -- A run over a port goes on at this place after its turns.
-pub record GoesOnAt {C O : Type 0} (breakage : PinCable C O → Breakage) (board : C → Option (List Card))
-    (makes : C → List Signal → C → Type 0) (shown : O → Shown)
+pub record GoesOnAt {C O : Type 0} (cable : CableOf C) (paper : PaperOf O)
     (all : Chain → Run) (old : PinCable C O) (place : ℕ) (new : PinCable C O) : Type 0 where
   pub events : List Event
   pub clocks : List Clock
-  pub passed : Passes breakage board makes shown old events clocks new
-  pub goes : (more : List Bool) → (all (chain_before breakage board makes shown old clocks more)).outcome ≡ Going place
+  pub passed : Passes cable paper old events clocks new
+  pub goes : (more : List Bool) → (all (chain_before cable paper old clocks more)).outcome ≡ Going place
 
 -- where the cable tells its board, whose controllers are in the reset state, a run on it goes on at this place
 abbrev pub GoesOnOver : {C : Type 0} → (C → Option (List Card)) → BaseLengths → (Chain → Run) → C → ℕ → Type 0

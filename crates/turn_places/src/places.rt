@@ -1,11 +1,9 @@
 //! The place at which a run goes on.
 ghost use Rattle.std.specs.Prelude.{◌≡◌, ◌<◌, ◌^◌, [], length, IfOk, IfSome};
-ghost use Rattle.scan_paths.specs.Cables.{whole};
 ghost use Rattle.machine_memory.specs.Acts.{IsUnused, state_of};
 ghost use Rattle.stapl_instructions.specs.Moves.{led_on, IsClean};
 ghost use Rattle.machine_memory.specs.RunRooms.{HasRoom};
-ghost use Rattle.written_cable.specs.Pins.{port_breakage};
-ghost use Rattle.written_cable.specs.Ports.{IsInStep};
+ghost use Rattle.written_cable.specs.Ports.{IsOpenPort};
 ghost use Rattle.stapl_machine.specs.Runs.{run_of, chosen_run, begun_run, play_from};
 ghost use Rattle.turn_places.specs.Places.{GoesOnAt};
 
@@ -31,11 +29,10 @@ fn turns_place<C: Cable, O: Paper, L: Ledger>(
 ) -> Result<Option<u32>, Trouble>
     requires countable { length code.now.instrs < 2 ^ 32 }
     requires none { work.old.operands.items ≡ [] }
-    requires whole { port_breakage C.breakage O.failed port.old ≡ whole }
-    requires in_step { IsInStep C.board port.old }
+    requires open { IsOpenPort C.Cable O.Paper port.old }
     requires room { HasRoom code.now work.old }
-    ensures { IfOk result (λ found. IfSome found (λ place. GoesOnAt (port_breakage C.breakage O.failed) C.board C.made
-        O.shown (run_of code.now turns start (state_of chosen.now work.old)) port.old place port.new)) }
+    ensures { IfOk result (λ found. IfSome found (λ place. GoesOnAt C.Cable O.Paper
+        (run_of code.now turns start (state_of chosen.now work.old)) port.old place port.new)) }
 {
     let mut place = start;
     for _turn in 0..turns {
@@ -59,11 +56,10 @@ fn chosen_place<C: Cable, O: Paper, L: Ledger>(
 ) -> Result<Option<u32>, Trouble>
     requires countable { length code.now.instrs < 2 ^ 32 }
     requires none { work.old.operands.items ≡ [] }
-    requires whole { port_breakage C.breakage O.failed port.old ≡ whole }
-    requires in_step { IsInStep C.board port.old }
+    requires open { IsOpenPort C.Cable O.Paper port.old }
     requires room { HasRoom code.now work.old }
-    ensures { IfOk result (λ found. IfSome found (λ place. GoesOnAt (port_breakage C.breakage O.failed) C.board C.made
-        O.shown (chosen_run code.now turns (state_of chosen.now work.old)) port.old place port.new)) }
+    ensures { IfOk result (λ found. IfSome found (λ place. GoesOnAt C.Cable O.Paper
+        (chosen_run code.now turns (state_of chosen.now work.old)) port.old place port.new)) }
 {
     match begin_next(code, chosen, &mut work.next) {
         Went::On(start) => match turns_place(code, chosen, start, work, port, turns, steps) {
@@ -86,11 +82,10 @@ fn begun_place<C: Cable, O: Paper, L: Ledger>(
 ) -> Result<Option<u32>, Trouble>
     requires countable { length code.now.instrs < 2 ^ 32 }
     requires none { IsClean went work.old.operands.items }
-    requires whole { port_breakage C.breakage O.failed port.old ≡ whole }
-    requires in_step { IsInStep C.board port.old }
+    requires open { IsOpenPort C.Cable O.Paper port.old }
     requires room { HasRoom code.now work.old }
-    ensures { IfOk result (λ found. IfSome found (λ place. GoesOnAt (port_breakage C.breakage O.failed) C.board C.made
-        O.shown (begun_run code.now turns (led_on went (state_of chosen.now work.old)) (state_of chosen.now work.old))
+    ensures { IfOk result (λ found. IfSome found (λ place. GoesOnAt C.Cable O.Paper
+        (begun_run code.now turns (led_on went (state_of chosen.now work.old)) (state_of chosen.now work.old))
         port.old place port.new)) }
 {
     match went {
@@ -114,11 +109,10 @@ pub(crate) fn play_place<C: Cable, O: Paper, L: Ledger>(
     requires countable { length code.now.instrs < 2 ^ 32 }
     requires none { work.old.operands.items ≡ [] }
     requires unused { IsUnused work.old.memory }
-    requires whole { port_breakage C.breakage O.failed port.old ≡ whole }
-    requires in_step { IsInStep C.board port.old }
+    requires open { IsOpenPort C.Cable O.Paper port.old }
     requires room { HasRoom code.now work.old }
-    ensures { IfOk result (λ found. IfSome found (λ place. GoesOnAt (port_breakage C.breakage O.failed) C.board C.made
-        O.shown (play_from code.now chosen.now work.old.memory.variables.items turns) port.old place port.new)) }
+    ensures { IfOk result (λ found. IfSome found (λ place. GoesOnAt C.Cable O.Paper
+        (play_from code.now chosen.now work.old.memory.variables.items turns) port.old place port.new)) }
 {
     work.next = 0;
     match rest_of_turn(code, chosen, 0, work, port, steps) {

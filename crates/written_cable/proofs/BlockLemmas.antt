@@ -25,7 +25,7 @@ use Rattle.written_cable.specs.Papers.{Shown, Puts, PutsFront, IsOverSame}
 use Rattle.written_cable.specs.PaperLaws.{puts_nothing}
 use Rattle.written_cable.specs.PinLaws.{front_nothing}
 use Rattle.written_cable.proofs.SignalLemmas.{events_in_pulsed}
-use Rattle.written_cable.specs.Pins.{cable_of, lines_of, tap_of, digits_of, writes_pins, IsSamePort, PutsEvents, HasPut, HasMadePins}
+use Rattle.written_cable.specs.Pins.{cable_of, lines_of, tap_of, digits_of, writes_pins, IsSamePort, PutsEvents, HasPutEvents, HasMadePins}
 use Rattle.std.proofs.lemmas.Option.{same_Some}
 
 own_clocks : (ks : List Clock) → clocks_with (map input_of ks) (tdos ks) ≡ ks
@@ -199,7 +199,7 @@ after_told before now is cs after e t u = same_Some _ _ (sym u ∙ e ∙ ap (λ 
 module _ {C O : Type 0} (breakage : PinCable C O → Breakage) (shown : O → Shown) (board : C → Option (List Card))
     (makes : C → List Signal → C → Type 0)
     (a b : PinCable C O) (same : IsSamePort a b) (tap : tap_of b ≡ tap_of a) (over : IsOverSame shown (lines_of a) (lines_of b)) where
-  pins_made : (ks : List Clock) → makes (cable_of a) (pulsed ks) (cable_of b) → HasPut breakage shown a (pulses ks) b →
+  pins_made : (ks : List Clock) → makes (cable_of a) (pulsed ks) (cable_of b) → HasPutEvents breakage shown a (pulses ks) b →
       HasMadePins breakage shown makes a (pulsed ks) b
   pins_made ks m p = record { same = same; tap = tap; over = over; made = m; put = rw (events_in_pulsed ks) p }
 

@@ -1,3 +1,4 @@
+pub mod PaperLemmas
 pub mod DigitLemmas
 pub mod SignalLemmas
 pub mod FarLemmas

@@ -9,7 +9,7 @@ use Rattle.written_cable.specs.declared.pin_cable.PinCable.{PinCable}
 use Rattle.written_cable.specs.Signals.{events_in}
 use Rattle.written_cable.specs.Papers.{Shown, Puts, PutsFront, IsOverSame}
 use Rattle.written_cable.specs.PaperLaws.{put_then, put_then_front, front_with}
-use Rattle.written_cable.specs.Pins.{cable_of, lines_of, tap_of, digits_of, writes_pins, IsSamePort, HasPut, HasMadePins}
+use Rattle.written_cable.specs.Pins.{cable_of, lines_of, tap_of, digits_of, writes_pins, IsSamePort, HasPutEvents, HasMadePins}
 use Rattle.written_cable.specs.PinLaws.{front_nothing}
 use Rattle.written_cable.proofs.DeedLemmas.{IsNoClock, said_so, none_wait_after}
 
@@ -27,16 +27,16 @@ module _ {C O : Type 0} (breakage : PinCable C O → Breakage) (board : C → Op
       (digits_of a)
 
   made_so : (signals : List Signal) → makes (cable_of a) signals (cable_of b) →
-      HasPut breakage shown a (events_in signals) b → HasMadePins breakage shown makes a signals b
+      HasPutEvents breakage shown a (events_in signals) b → HasMadePins breakage shown makes a signals b
   made_so signals made put = record { same = same; tap = tap; over = over; made = made; put = put }
 
-  made_one : makes (cable_of a) (signal ∷ []) (cable_of b) → HasPut breakage shown a (event ∷ []) b →
+  made_one : makes (cable_of a) (signal ∷ []) (cable_of b) → HasPutEvents breakage shown a (event ∷ []) b →
       HasMadePins breakage shown makes a (signal ∷ []) b
   made_one made put = made_so (signal ∷ []) made
-      (subst (λ (es : List Event). HasPut breakage shown a es b) (sym is) put)
+      (subst (λ (es : List Event). HasPutEvents breakage shown a es b) (sym is) put)
 
   -- nothing was put, and something is broken now
-  still_put : (es : List Event) → lines_of b ≡ lines_of a → breakage b ≢ whole → HasPut breakage shown a es b
+  still_put : (es : List Event) → lines_of b ≡ lines_of a → breakage b ≢ whole → HasPutEvents breakage shown a es b
   still_put es e n = record {
     all = λ w. absurd (n w);
     some = λ m. record {

@@ -1,5 +1,6 @@
 pub mod Papers
 pub mod PaperLaws
+pub mod OnPaper
 pub mod Signals
 pub mod Pins
 pub mod PinLaws

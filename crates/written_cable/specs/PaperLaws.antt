@@ -6,10 +6,9 @@ use Rattle.std.proofs.lemmas.Bool.{false≢true}
 use Rattle.tool_io.specs.declared.lines.Lines.{Lines}
 use Rattle.tool_io.specs.declared.outside.Sink.{Ghosts as SinkOf}
 use Rattle.tool_io.specs.Bytes.{then_bytes}
-use Rattle.tool_io.specs.Causes.{HasCause}
 use Rattle.tool_io.specs.Lines as io
 use Rattle.tool_io.proofs.BytesLemmas.{then_bytes-twice, then_bytes-nothing}
-use Rattle.written_cable.specs.Papers.{Shown, Begins, Puts, PutsFront, shown_of, faults_of, IsLastOf}
+use Rattle.written_cable.specs.Papers.{Shown, Begins, Puts, PutsFront, HasPutLine, shown_of, has_failed, faults_of, IsLastOf}
 
 -- nothing is put
 pub puts_nothing : {K : Type 0} (shown : K → Shown) (lines : K) → Puts shown lines [] lines
@@ -82,12 +81,11 @@ module _ {K : Type 0} (sink : SinkOf K) (a b : Lines K) (bytes : List ℕ) where
     waits = λ whole. absurd (false≢true (sym whole ∙ p.broken));
   }
 
-  pub puts_cause : {T E : Type 0} (x : T) → io.Puts sink a bytes b →
-      HasCause {E = E} (faults_of sink.faults) (IsLastOf sink.is_last) a b (Ok x)
-  puts_cause x p = record { kept = p.kept; failed = tt }
-
-  pub front_cause : {T E : Type 0} (e : E) → io.PutsBroken sink a bytes b → HasCause {T = T} (faults_of sink.faults) (IsLastOf sink.is_last) a b (Err e)
-  front_cause e p = record { kept = p.put.kept; failed = p.put.rose }
+  -- what a call puts on lines, as what it puts on a paper
+  pub text_on : {T E : Type 0} (r : Result T E) → io.HasPut sink a bytes b r →
+      HasPutLine (shown_of sink.written) has_failed (faults_of sink.faults) (IsLastOf sink.is_last) a bytes b r
+  text_on (Ok x) p = record { put = puts_on p; same = p.same_sink; whole = p.whole; kept = p.kept }
+  text_on (Err e) p = record { front = puts_front_on p; same = p.put.same_sink; kept = p.put.kept; rose = p.put.rose }
 
   pub puts_back : io.IsOverSame a b → io.IsWhole b → io.SinkNeverFalls sink a b → Puts (shown_of sink.written) a bytes b → io.Puts sink a bytes b
   puts_back same whole kept p =

@@ -1,9 +1,10 @@
 -- What text is put on, told by values alone, so that gathered lines meet it by what they hold. The rules are the tool's
 -- own.
-use Rattle.std.specs.Prelude.{◌≡◌, ℕ, Bool, false, List, ◌++◌, Option}
+use Rattle.std.specs.Prelude.{◌≡◌, ℕ, Bool, false, List, ◌++◌, Option, Result, Ok, Err}
 use Rattle.std.specs.Borrow.{GName}
 use Rattle.tool_io.specs.declared.lines.Lines.{Lines}
 use Rattle.tool_io.specs.Bytes.{then_bytes}
+use Rattle.tool_io.specs.Causes.{HasRisen, NeverFalls}
 use Rattle.tool_io.specs.Lines.{gathered, sink_of}
 
 -- the bytes that are put and not yet written, those that are written, where that is told, whether a call has failed,
@@ -36,6 +37,26 @@ pub record PutsFront {O : Type 0} (shown : O → Shown) (old : O) (bytes : List 
 -- it stands over the same
 abbrev pub IsOverSame : {O : Type 0} → (O → Shown) → O → O → Type 0
 IsOverSame shown old new = (shown new).over ≡ (shown old).over
+
+module _ {O : Type 0} (shown : O → Shown) (failed : O → Bool) (faults : O → ℕ) (is_last : O → Type 0) where
+  -- The bytes were put. It stands over the same, no call has failed, and the count was kept.
+  pub record PutsOnPaper (old : O) (bytes : List ℕ) (new : O) : Type 0 where
+    pub put : Puts shown old bytes new
+    pub same : IsOverSame shown old new
+    pub whole : failed new ≡ false
+    pub kept : NeverFalls faults is_last old new
+
+  -- A front of them was put. It stands over the same, and the count rose, or stands at its last value.
+  pub record PutsOnPaperFront (old : O) (bytes : List ℕ) (new : O) : Type 0 where
+    pub front : PutsFront shown old bytes new
+    pub same : IsOverSame shown old new
+    pub kept : NeverFalls faults is_last old new
+    pub rose : HasRisen faults is_last old new
+
+  -- What a call does that puts bytes, by its result.
+  abbrev pub HasPutLine : {T E : Type 0} → O → List ℕ → O → Result T E → Type 0
+  HasPutLine old bytes new (Ok x) = PutsOnPaper old bytes new
+  HasPutLine old bytes new (Err e) = PutsOnPaperFront old bytes new
 
 -- gathered lines as such
 abbrev pub shown_of : {K : Type 0} → (K → Option (List ℕ)) → Lines K → Shown

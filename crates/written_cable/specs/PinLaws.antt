@@ -10,7 +10,7 @@ use Rattle.stapl_meaning.specs.declared.events.Event.{Event}
 use Rattle.stapl_meaning.specs.Deeds.{pulse}
 use Rattle.stapl_meaning.specs.Texts.{event_bytes, digits_after, bytes_of, waiting}
 use Rattle.written_cable.specs.declared.pin_cable.PinCable.{PinCable}
-use Rattle.written_cable.specs.Pins.{cable_of, lines_of, digits_of, writes_pins, IsSamePort, PutsEvents, PutsEventsFront, HasPut, HasMadePins}
+use Rattle.written_cable.specs.Pins.{cable_of, lines_of, digits_of, writes_pins, IsSamePort, PutsEvents, PutsEventsFront, HasPutEvents, HasMadePins}
 
 pub bytes_both : (p : Bool) (digits : List ℕ) (xs ys : List Event) → bytes_of p digits (xs ++ ys) ≡ bytes_of p digits xs ++ bytes_of p (waiting p digits xs) ys
 bytes_both p digits [] ys = refl
@@ -60,13 +60,13 @@ pins≢whole e = cc
 module _ {C O : Type 0} (breakage : PinCable C O → Breakage) (shown : O → Shown) where
   -- no event, and nothing happened to the lines
   pub put_nothing : (a b : PinCable C O) → lines_of b ≡ lines_of a → digits_of b ≡ digits_of a →
-      (breakage b ≡ whole → breakage a ≡ whole) → HasPut breakage shown a [] b
+      (breakage b ≡ whole → breakage a ≡ whole) → HasPutEvents breakage shown a [] b
   put_nothing a b e d was = record {
     all = λ w. record { was_whole = was w; put = subst (λ (l : O). Puts shown (lines_of a) [] l) (sym e) (puts_nothing shown (lines_of a)); digits = d };
     some = λ n. record { front = front_same e []; still = λ m. e };
   }
 
-  pub put_none : (a : PinCable C O) → HasPut breakage shown a [] a
+  pub put_none : (a : PinCable C O) → HasPutEvents breakage shown a [] a
   put_none a = put_nothing a a refl refl (λ w. w)
 
   bytes_split : (a b : PinCable C O) (xs ys : List Event) → writes_pins b ≡ writes_pins a → PutsEvents breakage shown a xs b →
@@ -97,7 +97,7 @@ module _ {C O : Type 0} (breakage : PinCable C O → Breakage) (shown : O → Sh
       rw (bytes_both (writes_pins a) (digits_of a) xs ys) (front_with (bytes_of (writes_pins a) (waiting (writes_pins a) (digits_of a) xs) ys) f)
 
   broken_before : (a b c : PinCable C O) (xs ys : List Event) → breakage b ≢ whole →
-      HasPut breakage shown a xs b → PutsEventsFront breakage shown b ys c → PutsEventsFront breakage shown a (xs ++ ys) c
+      HasPutEvents breakage shown a xs b → PutsEventsFront breakage shown b ys c → PutsEventsFront breakage shown a (xs ++ ys) c
   broken_before a b c xs ys n p q =
       let first = p.some n in
       let stood = q.still n in
@@ -107,7 +107,7 @@ module _ {C O : Type 0} (breakage : PinCable C O → Breakage) (shown : O → Sh
       }
 
   both_some : (now : Breakage) (a b c : PinCable C O) (xs ys : List Event) → breakage b ≡ now → writes_pins b ≡ writes_pins a →
-      HasPut breakage shown a xs b → PutsEventsFront breakage shown b ys c → PutsEventsFront breakage shown a (xs ++ ys) c
+      HasPutEvents breakage shown a xs b → PutsEventsFront breakage shown b ys c → PutsEventsFront breakage shown a (xs ++ ys) c
   both_some whole a b c xs ys e same p q =
       let first = p.all e in
       record { front = events_both_front a b c xs ys same first q.front; still = λ w. absurd (w first.was_whole) }
@@ -115,7 +115,7 @@ module _ {C O : Type 0} (breakage : PinCable C O → Breakage) (shown : O → Sh
   both_some pins a b c xs ys e same p q = broken_before a b c xs ys (λ w. pins≢whole (sym e ∙ w)) p q
 
   pub put_both : (a b c : PinCable C O) (xs ys : List Event) → writes_pins b ≡ writes_pins a →
-      HasPut breakage shown a xs b → HasPut breakage shown b ys c → HasPut breakage shown a (xs ++ ys) c
+      HasPutEvents breakage shown a xs b → HasPutEvents breakage shown b ys c → HasPutEvents breakage shown a (xs ++ ys) c
   put_both a b c xs ys e p q = record {
     all = λ w. let second = q.all w in events_both a b c xs ys e (p.all second.was_whole) second;
     some = λ w. both_some (breakage b) a b c xs ys refl e p (q.some w);

@@ -106,7 +106,7 @@ module _ {C O : Type 0} (breakage : PinCable C O → Breakage) (shown : O → Sh
     pub front : PutsFront shown (lines_of old) (bytes_of (writes_pins old) (digits_of old) events) (lines_of new)
     pub still : breakage old ≢ whole → lines_of new ≡ lines_of old
 
-  pub record HasPut (old : PinCable C O) (events : List Event) (new : PinCable C O) : Type 0 where
+  pub record HasPutEvents (old : PinCable C O) (events : List Event) (new : PinCable C O) : Type 0 where
     pub all : breakage new ≡ whole → PutsEvents old events new
     pub some : breakage new ≢ whole → PutsEventsFront old events new
 
@@ -117,4 +117,4 @@ module _ {C O : Type 0} (breakage : PinCable C O → Breakage) (shown : O → Sh
     pub tap : tap_of new ≡ tap_of old
     pub over : IsOverSame shown (lines_of old) (lines_of new)
     pub made : makes (cable_of old) signals (cable_of new)
-    pub put : HasPut old (events_in signals) new
+    pub put : HasPutEvents old (events_in signals) new

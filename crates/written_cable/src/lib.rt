@@ -1,6 +1,7 @@
 //! The lines of a play, and a cable whose signals are written to them.
 #![tactic(auto)]
 
+mod deeds;
 mod digits;
 mod line_writer;
 mod paper;

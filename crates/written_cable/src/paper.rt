@@ -1,11 +1,10 @@
 //! What the lines of a play are put on.
-ghost use Rattle.std.specs.Prelude.{◌≡◌, ℕ, Bool, false, OnOk, OnErr};
-ghost use Rattle.tool_io.specs.Causes.{HasCause};
+ghost use Rattle.std.specs.Prelude.{◌≡◌, ℕ, Bool, false};
 ghost use Rattle.stapl_meaning.specs.Texts.{event_line, pin_line};
 ghost use Rattle.stapl_meaning.specs.declared.events.Event.TheVariants.{Print, Usec, Hertz};
 ghost use Rattle.stapl_code.specs.Safe.{constants_of};
 ghost use Rattle.machine_memory.specs.Exports.{export_event};
-ghost use Rattle.written_cable.specs.Papers.{Shown, Puts, PutsFront, IsOverSame};
+ghost use Rattle.written_cable.specs.Papers.{Shown, HasPutLine};
 
 use crate::line_writer;
 use machine_memory::effects::Export;
@@ -33,11 +32,8 @@ pub trait Paper {
     /// Puts the line of a PRINT with this text.
     fn put_print(&mut self, text: &[u8]) -> Result<(), Failed>
         requires { failed self.old ≡ false }
-        ensures same { IsOverSame shown self.old self.new }
-        ensures whole { OnOk result (failed self.new ≡ false) }
-        ensures ok { OnOk result (Puts shown self.old (event_line (Print text.now)) self.new) }
-        ensures front { OnErr result (PutsFront shown self.old (event_line (Print text.now)) self.new) }
-        ensures cause { HasCause faults is_last self.old self.new result };
+        ensures { HasPutLine shown failed faults is_last self.old
+            (event_line (Print text.now)) self.new result };
 
     /// Puts the line of an EXPORT.
     fn put_export(
@@ -47,40 +43,26 @@ pub trait Paper {
         export: Export,
     ) -> Result<(), Failed>
         requires { failed self.old ≡ false }
-        ensures same { IsOverSame shown self.old self.new }
-        ensures whole { OnOk result (failed self.new ≡ false) }
-        ensures ok { OnOk result (Puts shown self.old
-            (event_line (export_event (constants_of code.now) variables.now export)) self.new) }
-        ensures front { OnErr result (PutsFront shown self.old
-            (event_line (export_event (constants_of code.now) variables.now export)) self.new) }
-        ensures cause { HasCause faults is_last self.old self.new result };
+        ensures { HasPutLine shown failed faults is_last self.old
+            (event_line (export_event (constants_of code.now) variables.now export)) self.new result };
 
     /// Puts the line of a wait of n microseconds.
     fn put_usec(&mut self, n: u32) -> Result<(), Failed>
         requires { failed self.old ≡ false }
-        ensures same { IsOverSame shown self.old self.new }
-        ensures whole { OnOk result (failed self.new ≡ false) }
-        ensures ok { OnOk result (Puts shown self.old (event_line (Usec n)) self.new) }
-        ensures front { OnErr result (PutsFront shown self.old (event_line (Usec n)) self.new) }
-        ensures cause { HasCause faults is_last self.old self.new result };
+        ensures { HasPutLine shown failed faults is_last self.old
+            (event_line (Usec n)) self.new result };
 
     /// Puts the line of a frequency of n hertz.
     fn put_hertz(&mut self, n: u32) -> Result<(), Failed>
         requires { failed self.old ≡ false }
-        ensures same { IsOverSame shown self.old self.new }
-        ensures whole { OnOk result (failed self.new ≡ false) }
-        ensures ok { OnOk result (Puts shown self.old (event_line (Hertz n)) self.new) }
-        ensures front { OnErr result (PutsFront shown self.old (event_line (Hertz n)) self.new) }
-        ensures cause { HasCause faults is_last self.old self.new result };
+        ensures { HasPutLine shown failed faults is_last self.old
+            (event_line (Hertz n)) self.new result };
 
     /// Puts the line of these digits of clocks, and nothing if there is none.
     fn put_pins(&mut self, digits: &[u8]) -> Result<(), Failed>
         requires { failed self.old ≡ false }
-        ensures same { IsOverSame shown self.old self.new }
-        ensures whole { OnOk result (failed self.new ≡ false) }
-        ensures ok { OnOk result (Puts shown self.old (pin_line digits.now) self.new) }
-        ensures front { OnErr result (PutsFront shown self.old (pin_line digits.now) self.new) }
-        ensures cause { HasCause faults is_last self.old self.new result };
+        ensures { HasPutLine shown failed faults is_last self.old
+            (pin_line digits.now) self.new result };
 }
 
 impl<K: Sink> Paper for Lines<'_, K> {
@@ -94,38 +76,33 @@ impl<K: Sink> Paper for Lines<'_, K> {
 
     ghost is_last = { IsLastOf K.is_last };
 
-    #[tactic(auto, using(crate::specs::PaperLaws::puts_on, crate::specs::PaperLaws::puts_front_on, crate::specs::PaperLaws::puts_cause, crate::specs::PaperLaws::front_cause))]
+    #[tactic(auto, using(crate::specs::PaperLaws::text_on))]
     fn put_print(&mut self, text: &[u8]) -> Result<(), Failed> {
-        line_writer::put_print(self, text)?;
-        Ok(())
+        line_writer::put_print(self, text)
     }
 
-    #[tactic(auto, using(crate::specs::PaperLaws::puts_on, crate::specs::PaperLaws::puts_front_on, crate::specs::PaperLaws::puts_cause, crate::specs::PaperLaws::front_cause))]
+    #[tactic(auto, using(crate::specs::PaperLaws::text_on))]
     fn put_export(
         &mut self,
         code: &CodeLists,
         variables: &[Held],
         export: Export,
     ) -> Result<(), Failed> {
-        line_writer::put_export(self, code, variables, export)?;
-        Ok(())
+        line_writer::put_export(self, code, variables, export)
     }
 
-    #[tactic(auto, using(crate::specs::PaperLaws::puts_on, crate::specs::PaperLaws::puts_front_on, crate::specs::PaperLaws::puts_cause, crate::specs::PaperLaws::front_cause))]
+    #[tactic(auto, using(crate::specs::PaperLaws::text_on))]
     fn put_usec(&mut self, n: u32) -> Result<(), Failed> {
-        line_writer::put_usec(self, n)?;
-        Ok(())
+        line_writer::put_usec(self, n)
     }
 
-    #[tactic(auto, using(crate::specs::PaperLaws::puts_on, crate::specs::PaperLaws::puts_front_on, crate::specs::PaperLaws::puts_cause, crate::specs::PaperLaws::front_cause))]
+    #[tactic(auto, using(crate::specs::PaperLaws::text_on))]
     fn put_hertz(&mut self, n: u32) -> Result<(), Failed> {
-        line_writer::put_hertz(self, n)?;
-        Ok(())
+        line_writer::put_hertz(self, n)
     }
 
-    #[tactic(auto, using(crate::specs::PaperLaws::puts_on, crate::specs::PaperLaws::puts_front_on, crate::specs::PaperLaws::puts_cause, crate::specs::PaperLaws::front_cause))]
+    #[tactic(auto, using(crate::specs::PaperLaws::text_on))]
     fn put_pins(&mut self, digits: &[u8]) -> Result<(), Failed> {
-        line_writer::put_pins(self, digits)?;
-        Ok(())
+        line_writer::put_pins(self, digits)
     }
 }

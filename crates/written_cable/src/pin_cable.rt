@@ -1,33 +1,20 @@
-//! A cable whose clocks are written, and what a turn does over it.
-ghost use Rattle.std.specs.Prelude.{◌≡◌, ◌≢◌, ◌≤◌, ◌<◌, ◌+◌, ◌&&◌, ◌==◌, ◌∷◌, [], true, false, length, ℕ, List, OnOk, OnErr, IsTrue};
+//! A cable whose clocks are written.
+ghost use Rattle.std.specs.Prelude.{◌≡◌, ◌≤◌, ◌<◌, ◌+◌, ◌&&◌, ◌==◌, true, false, length, ℕ, OnOk};
 ghost use Rattle.std.specs.Int.{bit_at};
 ghost use Rattle.base.specs.Bits.{bit_value};
-ghost use Rattle.tool_io.specs.Causes.{HasCause};
-ghost use Rattle.tap_states.specs.declared.Tap.TheVariants as taps;
-ghost use Rattle.tap_states.specs.Tap.{is_stable_state};
-ghost use Rattle.scan_paths.specs.Cables.{whole, line, pins, HasPartCause, Waits, Tunes, SignalAnswer};
+ghost use Rattle.scan_paths.specs.Cables.{whole, Waits, Tunes, SignalAnswer};
 ghost use Rattle.scan_paths.specs.CableCalls.{KeepsCable};
-ghost use Rattle.stapl_meaning.specs.declared.events.Event.TheVariants.{Print, Usec, Hertz};
-ghost use Rattle.stapl_meaning.specs.Texts.{pin_digit, pin_line, full_line, with_digit, bytes_of, waiting, pin_limit};
 ghost use Rattle.scan_paths.specs.Scans.{lengths_of};
-ghost use Rattle.stapl_meaning.specs.Deeds.{Deed, Says, Goes, Stays, Scans, pulses};
-ghost use Rattle.stapl_meaning.specs.Scans.{is_instruction, scan_of};
-ghost use Rattle.stapl_code.specs.Safe.{constants_of};
-ghost use Rattle.machine_memory.specs.Exports.{export_event};
-ghost use Rattle.written_cable.specs.Papers.{IsOverSame, Puts, PutsFront};
+ghost use Rattle.stapl_meaning.specs.Deeds.{pulses};
+ghost use Rattle.stapl_meaning.specs.Texts.{pin_digit, full_line, with_digit, bytes_of, waiting, pin_limit};
+ghost use Rattle.written_cable.specs.OnPaper.{HasPutOn};
 ghost use Rattle.written_cable.specs.Blocks.{block_clocks, lines_of_digits, with_digits};
-ghost use Rattle.written_cable.specs.Ports.{IsInStep, IsKept, Did, DidFront, DidScan};
+ghost use Rattle.written_cable.specs.Ports.{broken_part, IsNewPort, IsCableStill, HasFinished, IsKept};
 
 use crate::digits::Digits;
 use crate::paper::Paper;
 use bit_lanes::pin_digits;
-use machine_memory::effects::Export;
-use machine_memory::scan_bits::ScanBits;
-use machine_memory::settings::Settings;
-use scan_paths::{BasePads, Cable, ScanPlan, move_to, scan, stay};
-use stapl_code::CodeLists;
-use stapl_lexer::Register;
-use stapl_meaning::Held;
+use scan_paths::{BasePads, Cable};
 use tap_states::Tap;
 use tool_io::Failed;
 
@@ -35,13 +22,13 @@ use tool_io::Failed;
 /// is wanted, and keeps the state of the controllers and the base padding of the scans. It takes no memory.
 #[derive(Drop)]
 pub struct PinCable<'a, C, O> {
-    cable: &'a mut C,
-    out: &'a mut O,
-    tap: Tap,
-    base: BasePads,
-    digits: Digits,
-    pins: bool,
-    torn: bool,
+    pub(crate) cable: &'a mut C,
+    pub(crate) out: &'a mut O,
+    pub(crate) tap: Tap,
+    pub(crate) base: BasePads,
+    pub(crate) digits: Digits,
+    pub(crate) pins: bool,
+    pub(crate) torn: bool,
 }
 
 fn bit(b: bool) -> u8
@@ -57,25 +44,12 @@ pub fn digit(tms: bool, tdi: bool, tdo: bool) -> u8
     48 + (4 * bit(tms) + (2 * bit(tdi) + bit(tdo)))
 }
 
-fn is_instruction(register: Register) -> bool
-    ensures { result ≡ is_instruction register }
-{
-    match register {
-        Register::Data => false,
-        Register::Instruction => true,
-    }
-}
-
 // Puts the line of digits that are full, and adds a digit.
-#[tactic(auto, using(crate::specs::PaperLaws::puts_nothing))]
+#[tactic(auto, using(crate::proofs::PaperLemmas::paper_still))]
 fn note<O: Paper>(out: &mut O, digits: &mut Digits, digit: u8) -> Result<(), Failed>
     requires whole { O.failed out.old ≡ false }
-    ensures same { IsOverSame O.shown out.old out.new }
-    ensures whole { OnOk result (O.failed out.new ≡ false) }
-    ensures ok { OnOk result (Puts O.shown out.old (full_line digits.old) out.new) }
+    ensures put { HasPutOn O.Paper out.old (full_line digits.old) out.new result }
     ensures digits { OnOk result (digits.new ≡ with_digit digits.old digit) }
-    ensures front { OnErr result (PutsFront O.shown out.old (full_line digits.old) out.new) }
-    ensures cause { HasCause O.faults O.is_last out.old out.new result }
 {
     if digits.is_full() {
         out.put_pins(digits.bytes())?;
@@ -100,12 +74,8 @@ fn block_tms(n: u32, last: bool) -> u64
 fn note_line<O: Paper>(out: &mut O, digits: &mut Digits, line: &[u8]) -> Result<(), Failed>
     requires whole { O.failed out.old ≡ false }
     requires most { length line.now ≤ pin_limit }
-    ensures same { IsOverSame O.shown out.old out.new }
-    ensures whole { OnOk result (O.failed out.new ≡ false) }
-    ensures ok { OnOk result (Puts O.shown out.old (lines_of_digits digits.old line.now) out.new) }
+    ensures put { HasPutOn O.Paper out.old (lines_of_digits digits.old line.now) out.new result }
     ensures digits { OnOk result (digits.new ≡ with_digits digits.old line.now) }
-    ensures front { OnErr result (PutsFront O.shown out.old (lines_of_digits digits.old line.now) out.new) }
-    ensures cause { HasCause O.faults O.is_last out.old out.new result }
 {
     let room = digits.room();
     if line.len() <= room {
@@ -131,14 +101,9 @@ fn note_block<O: Paper>(
     requires whole { O.failed out.old ≡ false }
     requires some { 1 ≤ n }
     requires most { n ≤ 64 }
-    ensures same { IsOverSame O.shown out.old out.new }
-    ensures whole { OnOk result (O.failed out.new ≡ false) }
-    ensures ok { OnOk result (Puts O.shown out.old
-        (bytes_of true digits.old (pulses (block_clocks tdi tdo n last))) out.new) }
+    ensures put { HasPutOn O.Paper out.old
+        (bytes_of true digits.old (pulses (block_clocks tdi tdo n last))) out.new result }
     ensures digits { OnOk result (digits.new ≡ waiting true digits.old (pulses (block_clocks tdi tdo n last))) }
-    ensures front { OnErr result (PutsFront O.shown out.old
-        (bytes_of true digits.old (pulses (block_clocks tdi tdo n last))) out.new) }
-    ensures cause { HasCause O.faults O.is_last out.old out.new result }
 {
     let mut line = [0u8; 64];
     pin_digits(block_tms(n, last), tdi, tdo, n, &mut line);
@@ -166,7 +131,7 @@ fn set_frequency<C: Cable>(cable: &mut C, n: u32) -> Result<(), Failed>
 }
 
 impl<'a, C: Cable, O: Paper> PinCable<'a, C, O> {
-    ghost use Rattle.written_cable.specs.Pins.{cable_of, lines_of, tap_of, base_of, digits_of, writes_pins, port_breakage, is_torn, port_line_faults, IsPortLineLast, port_pin_faults, IsPortPinLast, IsSamePort, IsOverCable, IsOverLines, PutsEvents};
+    ghost use Rattle.written_cable.specs.Pins.{is_torn};
 
     /// Over this cable, whose controllers are in the reset state, and these lines, where these digits wait, with this
     /// base padding.
@@ -177,15 +142,7 @@ impl<'a, C: Cable, O: Paper> PinCable<'a, C, O> {
         pins: bool,
         base: BasePads,
     ) -> PinCable<'a, C, O>
-        ensures same_cable { IsOverCable result cable.entry }
-        ensures same_out { IsOverLines result out.entry }
-        ensures cable { cable_of result ≡ cable.old }
-        ensures out { lines_of result ≡ out.old }
-        ensures tap { tap_of result ≡ taps.Reset }
-        ensures base { base_of result ≡ lengths_of base }
-        ensures digits { digits_of result ≡ digits }
-        ensures pins { writes_pins result ≡ pins }
-        ensures untorn { is_torn result ≡ false }
+        ensures { IsNewPort cable.entry out.entry digits pins (lengths_of base) result }
     {
         PinCable {
             cable,
@@ -209,22 +166,10 @@ impl<'a, C: Cable, O: Paper> PinCable<'a, C, O> {
     ///
     /// `Failed` as of the lines.
     pub fn finish(&mut self) -> Result<(), Failed>
-        requires { port_breakage C.breakage O.failed self.old ≡ whole }
-        ensures same { IsSamePort self.old self.new }
-        ensures tap { tap_of self.new ≡ tap_of self.old }
-        ensures over { IsOverSame O.shown (lines_of self.old) (lines_of self.new) }
-        ensures cable { cable_of self.new ≡ cable_of self.old }
-        ensures put { OnOk result (Puts O.shown (lines_of self.old)
-            (pin_line (digits_of self.old)) (lines_of self.new)) }
-        ensures none { OnOk result (digits_of self.new ≡ []) }
-        ensures front { OnErr result (PutsFront O.shown (lines_of self.old)
-            (pin_line (digits_of self.old)) (lines_of self.new)) }
-        ensures unbroken { OnOk result (port_breakage C.breakage O.failed self.new ≡ whole) }
-        ensures broken { OnErr result (port_breakage C.breakage O.failed self.new ≡ pins) }
-        ensures line { HasPartCause line (port_line_faults C.line_faults C.pin_faults)
-            (IsPortLineLast C.is_line_last C.is_pin_last) (port_breakage C.breakage O.failed) self.old self.new }
-        ensures pins { HasPartCause pins (port_pin_faults O.faults)
-            (IsPortPinLast O.is_last) (port_breakage C.breakage O.failed) self.old self.new }
+        requires { broken_part C.Cable O.Paper self.old ≡ whole }
+        ensures finished { HasFinished C.Cable O.Paper self.old self.new result }
+        ensures still { IsCableStill self.old self.new }
+        ensures kept { IsKept C.Cable O.Paper self.old self.new }
     {
         self.torn = true;
         self.out.put_pins(self.digits.bytes())?;
@@ -300,186 +245,4 @@ impl<C: Cable, O: Paper> Cable for PinCable<'_, C, O> {
     ghost both_made = { λ a b c front back p q.
         made_both (port_breakage C.breakage O.failed) O.shown C.made a b c front back
         (C.both_made (cable_of a) (cable_of b) (cable_of c) front back p.made q.made) p q };
-}
-
-/// What a turn does to the outside. Each call has done its deed after `Ok`, whatever others follow, and a front of what
-/// that comes to after `Failed`, which comes only if the count of the cable or of the lines rose, or stands at its last
-/// value. If the cable tells its board, all its controllers are in the state that is kept here.
-impl<C: Cable, O: Paper> PinCable<'_, C, O> {
-    ghost use Rattle.written_cable.specs.Pins.{tap_of, port_breakage};
-
-    /// Moves all controllers to a state.
-    pub fn go(&mut self, to: Tap) -> Result<(), Failed>
-        requires whole { port_breakage C.breakage O.failed self.old ≡ whole }
-        requires in_step { IsInStep C.board self.old }
-        ensures in_step { OnOk result (IsInStep C.board self.new) }
-        ensures did { OnOk result ((rest : List Deed) → Did (port_breakage C.breakage O.failed)
-            C.board C.made O.shown (Goes to ∷ rest) self.old rest self.new) }
-        ensures front { OnErr result ((rest : List Deed) → DidFront (port_breakage C.breakage O.failed)
-            C.board C.made O.shown (Goes to ∷ rest) self.old self.new) }
-        ensures at { OnOk result (tap_of self.new ≡ to) }
-        ensures unbroken { OnOk result (port_breakage C.breakage O.failed self.new ≡ whole) }
-        ensures broken { OnErr result (port_breakage C.breakage O.failed self.new ≢ whole) }
-        ensures kept { IsKept (port_breakage C.breakage O.failed) C.line_faults C.is_line_last
-            C.pin_faults C.is_pin_last O.shown O.faults O.is_last self.old self.new }
-    {
-        let at = self.tap;
-        let _state = move_to(self, at, to)?;
-        self.tap = to;
-        Ok(())
-    }
-
-    /// Keeps all controllers in their state, which is stable, for n clocks.
-    pub fn rest(&mut self, n: u32) -> Result<(), Failed>
-        requires whole { port_breakage C.breakage O.failed self.old ≡ whole }
-        requires in_step { IsInStep C.board self.old }
-        requires stable { IsTrue (is_stable_state (tap_of self.old)) }
-        ensures in_step { OnOk result (IsInStep C.board self.new) }
-        ensures did { OnOk result ((rest : List Deed) → Did (port_breakage C.breakage O.failed)
-            C.board C.made O.shown (Stays n ∷ rest) self.old rest self.new) }
-        ensures front { OnErr result ((rest : List Deed) → DidFront (port_breakage C.breakage O.failed)
-            C.board C.made O.shown (Stays n ∷ rest) self.old self.new) }
-        ensures unbroken { OnOk result (port_breakage C.breakage O.failed self.new ≡ whole) }
-        ensures broken { OnErr result (port_breakage C.breakage O.failed self.new ≢ whole) }
-        ensures kept { IsKept (port_breakage C.breakage O.failed) C.line_faults C.is_line_last
-            C.pin_faults C.is_pin_last O.shown O.faults O.is_last self.old self.new }
-    {
-        let at = self.tap;
-        stay(self, at, n)?;
-        Ok(())
-    }
-
-    /// Whether all controllers are in a stable state.
-    pub fn is_stable(&self) -> bool
-        ensures { result ≡ is_stable_state (tap_of self.now) }
-    {
-        self.tap.is_stable()
-    }
-
-    /// Scans these bits through these registers by their settings, with the base padding that is kept here, from the
-    /// stable state in which all controllers are. `captured` becomes what was captured.
-    pub fn scan(
-        &mut self,
-        register: Register,
-        settings: &Settings,
-        bits: &ScanBits,
-        captured: &mut ScanBits,
-    ) -> Result<(), Failed>
-        requires whole { port_breakage C.breakage O.failed self.old ≡ whole }
-        requires in_step { IsInStep C.board self.old }
-        requires stable { IsTrue (is_stable_state (tap_of self.old)) }
-        requires some { 1 ≤ length bits.now }
-        requires room { length captured.old ≡ length bits.now }
-        ensures in_step { OnOk result (IsInStep C.board self.new) }
-        ensures did { OnOk result (DidScan (port_breakage C.breakage O.failed) C.board C.made O.shown
-            (scan_of register settings.now bits.now) captured.new self.old self.new) }
-        ensures front { OnErr result (DidFront (port_breakage C.breakage O.failed) C.board C.made O.shown
-            (Scans (scan_of register settings.now bits.now) ∷ []) self.old self.new) }
-        ensures length { length captured.new ≡ length captured.old }
-        ensures unbroken { OnOk result (port_breakage C.breakage O.failed self.new ≡ whole) }
-        ensures broken { OnErr result (port_breakage C.breakage O.failed self.new ≢ whole) }
-        ensures kept { IsKept (port_breakage C.breakage O.failed) C.line_faults C.is_line_last
-            C.pin_faults C.is_pin_last O.shown O.faults O.is_last self.old self.new }
-    {
-        let plan = ScanPlan {
-            ir: is_instruction(register),
-            len: bits.len(),
-            stop: settings.stop(),
-            base: self.base,
-        };
-        let at = self.tap;
-        let _state = scan(
-            self,
-            at,
-            plan,
-            bits.as_bits(),
-            &mut captured.room,
-            settings.pads(),
-        )?;
-        self.tap = plan.stop;
-        Ok(())
-    }
-
-    /// Prints a text.
-    pub fn print(&mut self, text: &[u8]) -> Result<(), Failed>
-        requires whole { port_breakage C.breakage O.failed self.old ≡ whole }
-        requires in_step { IsInStep C.board self.old }
-        ensures in_step { OnOk result (IsInStep C.board self.new) }
-        ensures did { OnOk result ((rest : List Deed) → Did (port_breakage C.breakage O.failed)
-            C.board C.made O.shown (Says (Print text.now) ∷ rest) self.old rest self.new) }
-        ensures front { OnErr result ((rest : List Deed) → DidFront (port_breakage C.breakage O.failed)
-            C.board C.made O.shown (Says (Print text.now) ∷ rest) self.old self.new) }
-        ensures unbroken { OnOk result (port_breakage C.breakage O.failed self.new ≡ whole) }
-        ensures broken { OnErr result (port_breakage C.breakage O.failed self.new ≢ whole) }
-        ensures kept { IsKept (port_breakage C.breakage O.failed) C.line_faults C.is_line_last
-            C.pin_faults C.is_pin_last O.shown O.faults O.is_last self.old self.new }
-    {
-        self.finish()?;
-        self.torn = true;
-        self.out.put_print(text)?;
-        self.torn = false;
-        Ok(())
-    }
-
-    /// Exports what lies in a code or in variables.
-    pub fn export(
-        &mut self,
-        code: &CodeLists,
-        variables: &[Held],
-        export: Export,
-    ) -> Result<(), Failed>
-        requires whole { port_breakage C.breakage O.failed self.old ≡ whole }
-        requires in_step { IsInStep C.board self.old }
-        ensures in_step { OnOk result (IsInStep C.board self.new) }
-        ensures did { OnOk result ((rest : List Deed) → Did (port_breakage C.breakage O.failed) C.board C.made O.shown
-            (Says (export_event (constants_of code.now) variables.now export) ∷ rest) self.old rest self.new) }
-        ensures front { OnErr result ((rest : List Deed) → DidFront (port_breakage C.breakage O.failed) C.board C.made
-            O.shown (Says (export_event (constants_of code.now) variables.now export) ∷ rest) self.old self.new) }
-        ensures unbroken { OnOk result (port_breakage C.breakage O.failed self.new ≡ whole) }
-        ensures broken { OnErr result (port_breakage C.breakage O.failed self.new ≢ whole) }
-        ensures kept { IsKept (port_breakage C.breakage O.failed) C.line_faults C.is_line_last
-            C.pin_faults C.is_pin_last O.shown O.faults O.is_last self.old self.new }
-    {
-        self.finish()?;
-        self.torn = true;
-        self.out.put_export(code, variables, export)?;
-        self.torn = false;
-        Ok(())
-    }
-
-    /// Waits for n microseconds.
-    pub fn pause(&mut self, n: u32) -> Result<(), Failed>
-        requires whole { port_breakage C.breakage O.failed self.old ≡ whole }
-        requires in_step { IsInStep C.board self.old }
-        ensures in_step { OnOk result (IsInStep C.board self.new) }
-        ensures did { OnOk result ((rest : List Deed) → Did (port_breakage C.breakage O.failed)
-            C.board C.made O.shown (Says (Usec n) ∷ rest) self.old rest self.new) }
-        ensures front { OnErr result ((rest : List Deed) → DidFront (port_breakage C.breakage O.failed)
-            C.board C.made O.shown (Says (Usec n) ∷ rest) self.old self.new) }
-        ensures unbroken { OnOk result (port_breakage C.breakage O.failed self.new ≡ whole) }
-        ensures broken { OnErr result (port_breakage C.breakage O.failed self.new ≢ whole) }
-        ensures kept { IsKept (port_breakage C.breakage O.failed) C.line_faults C.is_line_last
-            C.pin_faults C.is_pin_last O.shown O.faults O.is_last self.old self.new }
-    {
-        self.usec(n)?;
-        Ok(())
-    }
-
-    /// Sets the frequency of the clocks that follow to n hertz, or states none if n is 0.
-    pub fn tune(&mut self, n: u32) -> Result<(), Failed>
-        requires whole { port_breakage C.breakage O.failed self.old ≡ whole }
-        requires in_step { IsInStep C.board self.old }
-        ensures in_step { OnOk result (IsInStep C.board self.new) }
-        ensures did { OnOk result ((rest : List Deed) → Did (port_breakage C.breakage O.failed)
-            C.board C.made O.shown (Says (Hertz n) ∷ rest) self.old rest self.new) }
-        ensures front { OnErr result ((rest : List Deed) → DidFront (port_breakage C.breakage O.failed)
-            C.board C.made O.shown (Says (Hertz n) ∷ rest) self.old self.new) }
-        ensures unbroken { OnOk result (port_breakage C.breakage O.failed self.new ≡ whole) }
-        ensures broken { OnErr result (port_breakage C.breakage O.failed self.new ≢ whole) }
-        ensures kept { IsKept (port_breakage C.breakage O.failed) C.line_faults C.is_line_last
-            C.pin_faults C.is_pin_last O.shown O.faults O.is_last self.old self.new }
-    {
-        self.hertz(n)?;
-        Ok(())
-    }
 }

@@ -1,8 +1,7 @@
 //! Why a run is broken off.
 ghost use Rattle.std.specs.Prelude.{◌≢◌};
 ghost use Rattle.scan_paths.specs.Cables.{whole};
-ghost use Rattle.written_cable.specs.Pins.{port_breakage};
-ghost use Rattle.written_cable.specs.Ports.{BrokeSo};
+ghost use Rattle.written_cable.specs.Ports.{BrokeSo, broken_part};
 
 use crate::paper::Paper;
 use crate::pin_cable::PinCable;
@@ -20,8 +19,8 @@ pub enum Trouble {
 
 /// Which part of a broken port is broken.
 pub fn trouble_of<C: Cable, O: Paper>(port: &PinCable<C, O>) -> Trouble
-    requires { port_breakage C.breakage O.failed port.now ≢ whole }
-    ensures { BrokeSo result (port_breakage C.breakage O.failed port.now) }
+    requires { broken_part C.Cable O.Paper port.now ≢ whole }
+    ensures { BrokeSo result (broken_part C.Cable O.Paper port.now) }
 {
     if port.is_torn() {
         return Trouble::WriteFault;

@@ -41,14 +41,14 @@ pub returns-in-On-clause-clean : goal.returns-in-On-clause-clean
 returns-in-On-clause-clean g c =
     let code = c.args.code.now in let i = c.args.i in let x = c.index-as_slice-i.result in let is : x ≡ get_or code.instrs i x = search rules in
     let old = c.args.work.now in let new = c.try_step.new.work in
-    holds_after code i x c.requires.inside is old c.requires.few new (tried_leaves code i x [] old new (c.in-On.ensures.tried []))
+    holds_after code i x c.requires.inside is old c.requires.room.few new (tried_leaves code i x [] old new (c.in-On.ensures.tried []))
 
 pub returns-in-Not-clause-clean : goal.returns-in-Not-clause-clean
 returns-in-Not-clause-clean g c =
     let old = c.args.work.now in let new = c.try_step.new.work in
-    holds_still c.args.code.now c.args.i old new (same_count old new (c.in-Not.ensures.tried []).0) c.requires.few
+    holds_still c.args.code.now c.args.i old new (same_count old new (c.in-Not.ensures.tried []).0) c.requires.room.few
 
 pub try_step-requires : goal.try_step-requires
 try_step-requires g c =
     let code = c.args.code.now in let i = c.args.i in let x = c.index-as_slice-i.result in let is : x ≡ get_or code.instrs i x = search rules in
-    count_fits code i x c.requires.inside is c.args.work.now c.requires.few c.requires.room
+    count_fits code i x c.requires.inside is c.args.work.now c.requires.room.few c.requires.room.room

@@ -3,7 +3,6 @@ use Rattle.stapl_code.specs.Machine.{entry_of, begins_chosen}
 use Rattle.stapl_code.specs.Safe.{entries_of}
 use Rattle.machine_memory.specs.Acts.{state_of}
 use Rattle.stapl_instructions.specs.Moves.{led_on}
-use Rattle.written_cable.specs.Pins.{port_breakage}
 use Rattle.stapl_machine.specs.Turns.{rest_of, ticks_from, no_ticks}
 use Rattle.stapl_machine.specs.Runs.{run_of, play_from}
 use Rattle.stapl_instructions.proofs.OperandLemmas.{none_hold, room_kept}
@@ -13,21 +12,26 @@ use Rattle.turn_places.proofs.places.play_place.Goals as goal
 
 pub returns-in-Ok-begun_place : goal.returns-in-Ok-begun_place
 returns-in-Ok-begun_place g c =
-    let m = g.C.Cable in let b = port_breakage m.breakage g.O.Paper.failed in let w = g.O.Paper.shown in let code = c.args.code.now in let chosen = c.args.chosen.now in let n = c.args.turns in
+    let m = g.C.Cable in let w = g.O.Paper in let code = c.args.code.now in let chosen = c.args.chosen.now in let n = c.args.turns in
     let work = c.args.work.now in let none = c.requires.none in let no = c.requires.unused in let entry = entry_of (entries_of code.procedures) in
     let first = at_first code chosen work n none no in let s = started code chosen work n none no in let begun = begun_by code chosen work n none no in
     let u = state_of chosen c.rest_of_turn.new.work in let led = λ (k : Chain). begins_chosen entry (led_on c.in-Ok.went u k) in
     if_found c.in-Ok-begun_place.place
-    (λ p. place_then b m.board m.made w g.met.C.Cable.both_made c.args.port.now c.rest_of_turn.new.port c.begun_place.new.port
+    (λ p. place_then m w g.met.C.Cable.both_made c.args.port.now c.rest_of_turn.new.port c.begun_place.new.port
     (play_from code chosen work.memory.variables.items n) s u (run_of code n) begun led (ticks_from code 0 chosen first) no_ticks c.args.steps.now c.rest_of_turn.new.steps p
     (play_is code chosen work n none no)
-    (begun_does b m.board m.made w c.args.port.now c.rest_of_turn.new.port entry (rest_of code 0 chosen first) (led_on c.in-Ok.went u)
+    (begun_does m w c.args.port.now c.rest_of_turn.new.port entry (rest_of code 0 chosen first) (led_on c.in-Ok.went u)
     (ticks_from code 0 chosen first) no_ticks c.args.steps.now c.rest_of_turn.new.steps c.in-Ok.ensures.does))
     c.in-Ok-begun_place.ensures
 
-pub rest_of_turn-requires-clause-few : goal.rest_of_turn-requires-clause-few
-rest_of_turn-requires-clause-few g c =
-    let work = c.args.work.now in none_hold c.args.code.now 0 (record work { next = 0 }) c.requires.room c.requires.none
+pub rest_of_turn-requires-clause-room : goal.rest_of_turn-requires-clause-room
+rest_of_turn-requires-clause-room g c =
+    let work = c.args.work.now in
+    record {
+      countable = c.requires.countable;
+      room = c.requires.room;
+      few = none_hold c.args.code.now 0 (record work { next = 0 }) c.requires.room c.requires.none;
+    }
 
 pub begun_place-requires-clause-room : goal.begun_place-requires-clause-room
 begun_place-requires-clause-room g c =

@@ -6,5 +6,5 @@ pub returns-in-Ok-place_with : goal.returns-in-Ok-place_with
 returns-in-Ok-place_with g c =
     let m = g.C.Cable in
     if_found c.in-Ok-place_with.place
-    (λ p. told_place m.board m.made (lengths_of c.args.base.now) c.args.code.now c.args.chosen.now c.args.turns c.args.cable.now c.reset_chain.new.cable _ p c.in-Ok.ensures.reset)
+    (λ p. told_place m.board m.made (lengths_of c.args.base.now) c.args.code.now c.args.chosen.now c.args.turns c.args.cable.now c.reset_chain.new.cable _ p c.in-Ok.ensures.reset.reset)
     c.in-Ok-place_with.ensures

@@ -1,29 +1,26 @@
-use Rattle.std.proofs.Common.{sym, ap, subst, []}
-use Rattle.tool_io.proofs.BytesLemmas.{on_err}
+use Rattle.std.proofs.Common.{refl}
 use Rattle.stapl_meaning.specs.declared.events.Event.TheVariants.{Print}
-use Rattle.written_cable.specs.Pins.{port_breakage}
-use Rattle.written_cable.proofs.DeedLemmas.{said_pins_front, said_line_front, did_said}
+use Rattle.written_cable.proofs.DeedLemmas.{deeds_failed, digits_torn, line_torn, line_said}
 use Rattle.written_cable.proofs.pin_cable.PinCable.print.Goals as goal
 
-pub returns-in_err-finish-clause-front : goal.returns-in_err-finish-clause-front
-returns-in_err-finish-clause-front g c =
-    let m = g.C.Cable in
-    let made = subst (λ x. m.made c.args.self.now.cable.now [] x) (sym c.finish.ensures.cable) (g.met.C.Cable.none_made c.args.self.now.cable.now) in
-    on_err c.from_residual.result (λ rest. said_pins_front (port_breakage m.breakage g.O.Paper.failed) m.board m.made g.O.Paper.shown
-    (Print c.args.text.now) tt rest c.args.self.now c.finish.new.self made c.in_err-finish.ensures.front)
+pub returns-in_err-finish : goal.returns-in_err-finish
+returns-in_err-finish g c =
+    let f = c.finish.ensures in
+    deeds_failed c.from_residual.result c.from_residual.ensures.0
+    (digits_torn g.C.Cable g.O.Paper (Print c.args.text.now) tt refl c.args.self.now c.finish.new.self c.requires f.still f.kept
+    (g.met.C.Cable.none_made c.args.self.now.cable.now) c.in_err-finish.ensures.finished)
 
-pub returns-in_err-put_print-clause-front : goal.returns-in_err-put_print-clause-front
-returns-in_err-put_print-clause-front g c =
-    let m = g.C.Cable in
-    let made = subst (λ x. m.made c.args.self.now.cable.now [] x) (sym c.finish.ensures.cable) (g.met.C.Cable.none_made c.args.self.now.cable.now) in
-    on_err c.from_residual-in_err-put_print.result
-    (λ rest. said_line_front (port_breakage m.breakage g.O.Paper.failed) m.board m.made g.O.Paper.shown
-    (Print c.args.text.now) tt rest c.args.self.now c.finish.new.self _ made c.in_ok-finish.ensures.put c.in_err-put_print.ensures.front)
+pub returns-in_err-put_print : goal.returns-in_err-put_print
+returns-in_err-put_print g c =
+    let f = c.finish.ensures in let same = f.kept.same in
+    deeds_failed c.from_residual-in_err-put_print.result c.from_residual-in_err-put_print.ensures.0
+    (line_torn g.C.Cable g.O.Paper (Print c.args.text.now) tt refl c.args.self.now c.finish.new.self c.requires f.still f.kept
+    (g.met.C.Cable.none_made c.args.self.now.cable.now) _ c.in_ok-finish.ensures.finished
+    (record { cable = same.cable; out = same.out; pins = same.pins; base = same.base }) refl refl c.in_err-put_print.ensures)
 
-pub returns-clause-did : goal.returns-clause-did
-returns-clause-did g c =
-    let m = g.C.Cable in let same = c.finish.ensures.same in
-    let made = subst (λ x. m.made c.args.self.now.cable.now [] x) (sym c.finish.ensures.cable) (g.met.C.Cable.none_made c.args.self.now.cable.now) in
-    λ rest. did_said (port_breakage m.breakage g.O.Paper.failed) m.board m.made g.O.Paper.shown (Print c.args.text.now) tt rest c.args.self.now c.finish.new.self _ made
-    (ap m.board c.finish.ensures.cable) c.finish.ensures.tap
-    (record { cable = same.cable; out = same.out; pins = same.pins; base = same.base }) c.requires.whole c.in_ok-finish.ensures.put c.in_ok-put_print.ensures.ok c.in_ok-finish.ensures.none
+pub returns : goal.returns
+returns g c =
+    let f = c.finish.ensures in let same = f.kept.same in
+    line_said g.C.Cable g.O.Paper (Print c.args.text.now) tt refl c.args.self.now c.finish.new.self c.requires f.still f.kept
+    (g.met.C.Cable.none_made c.args.self.now.cable.now) _ c.in_ok-finish.ensures.finished
+    (record { cable = same.cable; out = same.out; pins = same.pins; base = same.base }) refl refl refl refl c.in_ok-put_print.ensures

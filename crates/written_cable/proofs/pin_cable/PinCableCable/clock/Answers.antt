@@ -18,5 +18,5 @@ returns-in_err-note-clause-clocked g c =
     let m = g.C.Cable in
     clock_failed c.args.tms c.args.tdi c.from_residual-in_err-note.result c.from_residual-in_err-note.ensures.0
     (clock_torn (port_breakage m.breakage g.O.Paper.failed) m.board m.made g.O.Paper.shown c.args.self.now _ c.args.tms
-    c.args.tdi _ (record { cable = refl; out = refl; pins = refl; base = refl }) refl c.note.ensures.same
-    c.if-not-self.false c.requires refl c.in_ok-tdo.ensures.clocked c.in_err-note.ensures.front)
+    c.args.tdi _ (record { cable = refl; out = refl; pins = refl; base = refl }) refl c.in_err-note.ensures.put.same
+    c.if-not-self.false c.requires refl c.in_ok-tdo.ensures.clocked c.in_err-note.ensures.put.front)

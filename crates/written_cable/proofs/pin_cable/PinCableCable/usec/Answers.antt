@@ -21,11 +21,11 @@ returns-in_err-finish-clause-signalled g c =
     signal_failed c.from_residual-in_err-finish.result c.from_residual-in_err-finish.ensures.0
     (pins_failed (port_breakage m.breakage g.O.Paper.failed) m.board m.made g.O.Paper.shown (Waits c.args.n)
     (Usec c.args.n) refl tt c.args.self.now _ (record
-    { cable = f.same.cable; out = f.same.out; pins = f.same.pins; base = f.same.base }) f.tap f.over
-    (ap m.board f.cable ∙ c.in_ok-wait_once.ensures.signalled.cards)
+    { cable = f.kept.same.cable; out = f.kept.same.out; pins = f.kept.same.pins; base = f.kept.same.base }) f.still.tap f.kept.over
+    (ap m.board f.still.cable ∙ c.in_ok-wait_once.ensures.signalled.cards)
     (subst (λ x. m.made c.args.self.now.cable.now (Waits c.args.n ∷ []) x)
-    (sym f.cable) c.in_ok-wait_once.ensures.signalled.made) c.requires
-    (λ e. pins≢whole (sym c.in_err-finish.ensures.broken ∙ e)) c.in_err-finish.ensures.front)
+    (sym f.still.cable) c.in_ok-wait_once.ensures.signalled.made) c.requires
+    (λ e. pins≢whole (sym c.in_err-finish.ensures.finished.broken ∙ e)) c.in_err-finish.ensures.finished.front)
 
 pub returns-in_err-put_usec-clause-signalled : goal.returns-in_err-put_usec-clause-signalled
 returns-in_err-put_usec-clause-signalled g c =
@@ -33,10 +33,10 @@ returns-in_err-put_usec-clause-signalled g c =
     signal_failed c.from_residual-in_err-put_usec.result c.from_residual-in_err-put_usec.ensures.0
     (line_failed (port_breakage m.breakage g.O.Paper.failed) m.board m.made g.O.Paper.shown (Waits c.args.n)
     (Usec c.args.n) refl tt c.args.self.now _ (record
-    { cable = f.same.cable; out = f.same.out; pins = f.same.pins; base = f.same.base }) f.tap
-    (c.put_usec.ensures.same ∙ f.over) (ap m.board f.cable ∙ c.in_ok-wait_once.ensures.signalled.cards) _
+    { cable = f.kept.same.cable; out = f.kept.same.out; pins = f.kept.same.pins; base = f.kept.same.base }) f.still.tap
+    (c.in_err-put_usec.ensures.same ∙ f.kept.over) (ap m.board f.still.cable ∙ c.in_ok-wait_once.ensures.signalled.cards) _
     (subst (λ x. m.made c.args.self.now.cable.now (Waits c.args.n ∷ []) x)
-    (sym f.cable) c.in_ok-wait_once.ensures.signalled.made) c.requires pins≢whole c.in_ok-finish.ensures.put
+    (sym f.still.cable) c.in_ok-wait_once.ensures.signalled.made) c.requires pins≢whole c.in_ok-finish.ensures.finished.put
     c.in_err-put_usec.ensures.front)
 
 pub returns-clause-signalled : goal.returns-clause-signalled
@@ -44,8 +44,8 @@ returns-clause-signalled g c =
     let m = g.C.Cable in let f = c.finish.ensures in
     said_wholly (port_breakage m.breakage g.O.Paper.failed) m.board m.made g.O.Paper.shown (Waits c.args.n)
     (Usec c.args.n) refl tt c.args.self.now _ (record
-    { cable = f.same.cable; out = f.same.out; pins = f.same.pins; base = f.same.base }) f.tap
-    (c.put_usec.ensures.same ∙ f.over) (ap m.board f.cable ∙ c.in_ok-wait_once.ensures.signalled.cards) _
+    { cable = f.kept.same.cable; out = f.kept.same.out; pins = f.kept.same.pins; base = f.kept.same.base }) f.still.tap
+    (c.in_ok-put_usec.ensures.same ∙ f.kept.over) (ap m.board f.still.cable ∙ c.in_ok-wait_once.ensures.signalled.cards) _
     (subst (λ x. m.made c.args.self.now.cable.now (Waits c.args.n ∷ []) x)
-    (sym f.cable) c.in_ok-wait_once.ensures.signalled.made) c.requires
-    (search rules) c.in_ok-finish.ensures.put c.in_ok-put_usec.ensures.ok c.in_ok-finish.ensures.none
+    (sym f.still.cable) c.in_ok-wait_once.ensures.signalled.made) c.requires
+    (search rules) c.in_ok-finish.ensures.finished.put c.in_ok-put_usec.ensures.put c.in_ok-finish.ensures.finished.none
