@@ -22,10 +22,20 @@ use stapl_code::CodeLists;
 use stapl_meaning::{Held, Text, Value};
 use tool_io::{Failed, Lines, Sink, put_count_line, put_escaped, put_hex};
 
-/// Puts the line of a PRINT with this text.
+/// Puts the line of a PRINT with this text, and sends on what is put, so that the line is seen.
 ///
 /// `Failed` as of the sink.
 pub fn put_print<K: Sink>(out: &mut Lines<K>, bytes: &[u8]) -> Result<(), Failed>
+    requires { IsWhole out.old }
+    ensures { HasPut K.Sink out.old (event_line (Print bytes.now)) out.new result }
+{
+    put_print_line(out, bytes)?;
+    out.finish()?;
+    Ok(())
+}
+
+// Puts the line of a PRINT with this text.
+fn put_print_line<K: Sink>(out: &mut Lines<K>, bytes: &[u8]) -> Result<(), Failed>
     requires { IsWhole out.old }
     ensures { HasPut K.Sink out.old (event_line (Print bytes.now)) out.new result }
 {
@@ -239,10 +249,26 @@ fn put_line<K: Sink>(
     Ok(())
 }
 
-/// Puts the line of an EXPORT.
+/// Puts the line of an EXPORT, and sends on what is put, so that the line is seen.
 ///
 /// `Failed` as of the sink.
 pub fn put_export<K: Sink>(
+    out: &mut Lines<K>,
+    code: &CodeLists,
+    variables: &[Held],
+    export: Export,
+) -> Result<(), Failed>
+    requires { IsWhole out.old }
+    ensures { HasPut K.Sink out.old
+        (event_line (export_event (constants_of code.now) variables.now export)) out.new result }
+{
+    put_export_line(out, code, variables, export)?;
+    out.finish()?;
+    Ok(())
+}
+
+// Puts the line of an EXPORT.
+fn put_export_line<K: Sink>(
     out: &mut Lines<K>,
     code: &CodeLists,
     variables: &[Held],
@@ -256,24 +282,28 @@ pub fn put_export<K: Sink>(
     put_line(out, key, code.literals.as_slice(), variables, export.value)
 }
 
-/// Puts the line of a wait of n microseconds.
+/// Puts the line of a wait of n microseconds, and sends on what is put, so that the line is seen.
 ///
 /// `Failed` as of the sink.
 pub fn put_usec<K: Sink>(out: &mut Lines<K>, n: u32) -> Result<(), Failed>
     requires { IsWhole out.old }
     ensures { HasPut K.Sink out.old (event_line (Usec n)) out.new result }
 {
-    put_count_line(out, b"W ", n)
+    put_count_line(out, b"W ", n)?;
+    out.finish()?;
+    Ok(())
 }
 
-/// Puts the line of a frequency of n hertz.
+/// Puts the line of a frequency of n hertz, and sends on what is put, so that the line is seen.
 ///
 /// `Failed` as of the sink.
 pub fn put_hertz<K: Sink>(out: &mut Lines<K>, n: u32) -> Result<(), Failed>
     requires { IsWhole out.old }
     ensures { HasPut K.Sink out.old (event_line (Hertz n)) out.new result }
 {
-    put_count_line(out, b"F ", n)
+    put_count_line(out, b"F ", n)?;
+    out.finish()?;
+    Ok(())
 }
 
 /// Puts the line of these digits of clocks, and nothing if there is none.
