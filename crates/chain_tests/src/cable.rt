@@ -1,10 +1,11 @@
 //! Tests of moves, stays and the reset over a cable that fails.
-ghost use Rattle.std.specs.Prelude.{◌≡◌, ◌++◌, ◌^◌, ◌-◌, not, None, IfOk, OnOk, OnErr};
+ghost use Rattle.std.specs.Prelude.{◌≡◌, ◌++◌, ◌^◌, ◌-◌, not, None, IfOk};
 ghost use Rattle.std.proofs.lemmas.Option.{none-some};
 ghost use Rattle.tap_states.specs.declared.Tap.TheVariants.{Reset};
 ghost use Rattle.tap_states.specs.Path.{five_ones};
 ghost use Rattle.dev_card.specs.Clocks.{with_zero, move_inputs};
-ghost use Rattle.scan_paths.specs.Cables.{whole, whole_if, HasMade, HasMadeFront};
+ghost use Rattle.scan_paths.specs.Cables.{whole, whole_if};
+ghost use Rattle.scan_paths.specs.CableCalls.{MakesClocks};
 ghost use Rattle.scan_paths.specs.Scans.{AreInside};
 
 use bit_list::Bits;
@@ -90,10 +91,7 @@ impl Cable for SilentCable {
 // Brings the controllers to reset and then to a state: two calls in a row, of which either may fail.
 fn restart<C: Cable>(cable: &mut C, to: Tap) -> Result<Tap, Failed>
     requires { C.breakage cable.old ≡ whole }
-    ensures made { OnOk result (HasMade C.board C.made cable.old cable.new
-        (with_zero five_ones ++ move_inputs Reset to)) }
-    ensures front { OnErr result (HasMadeFront C.board C.made cable.old cable.new
-        (with_zero five_ones ++ move_inputs Reset to)) }
+    ensures { MakesClocks C.Cable cable.old (with_zero five_ones ++ move_inputs Reset to) cable.new result }
 {
     reset_chain(cable)?;
     let state = move_to(cable, Tap::Reset, to)?;

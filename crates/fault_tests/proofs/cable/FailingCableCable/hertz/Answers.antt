@@ -1,0 +1,7 @@
+use Rattle.std.proofs.Common.{inl, refl}
+use Rattle.scan_paths.proofs.Parts.{signal_failed}
+use Rattle.fault_tests.proofs.cable.FailingCableCable.hertz.Goals as goal
+
+pub returns-in_err-count-clause-signalled : goal.returns-in_err-count-clause-signalled
+returns-in_err-count-clause-signalled g c =
+    signal_failed c.from_residual.result c.from_residual.ensures.0 (record { made = inl tt; cards = refl })
