@@ -2,14 +2,14 @@
 use Rattle.std.specs.Prelude.{ℕ, Bool, ◌==◌, if◌then◌else◌, List, [], ◌++◌, length, take, codes}
 use Rattle.std.specs.List.{filter, list_any}
 use Rattle.std.specs.Str.Lines.{lines}
-use Rattle.std.specs.Str.{bytes_eq}
+use Rattle.std.specs.Str.{str_eq_ignore_ascii_case}
 use Rattle.stapl_lexer.specs.declared.reason.Reason.{Reason}
 use Rattle.stapl_lexer.specs.Reasons.{reason_name}
 use Rattle.tool_questions.specs.declared.explanation_texts.TheConstants.{EXPLANATIONS}
 
--- a line begins with these bytes
+-- a line begins with these bytes, in whatever letter case
 abbrev pub is_about : List ℕ → List ℕ → Bool
-is_about head line = bytes_eq (take (length head) line) head
+is_about head line = str_eq_ignore_ascii_case (take (length head) line) head
 
 -- the lines of the table that begin with these bytes; it does not unfold by itself, since the table is long
 unfoldable pub paragraphs : List ℕ → List (List ℕ)

@@ -12,7 +12,8 @@ NumberTooLarge, of a program: a number above 2,147,483,648, as a mask of 32 bits
 TooDeep, of a program: over 32 open brackets or IFs in one statement, or over 256 operators. Do this: divide the statement.
 UnknownStatement, of a program: a misspelt word, or a statement of another language, as SVF. Do this: correct it; take the STAPL file.
 Unsupported, of a program: TRST, VECTOR, VMAP, MAX, CEIL, FLOOR, LOG2 or SQRT. Do this: write what can stand in its place; section 1 of the guide.
-Syntax, of a program: a ; is missing, so two statements are one; or an unknown form. Do this: look at the end of the statement.
+Syntax, of a program: a ; is missing, so two statements are one. Do this: look at the end of the statement.
+Syntax, of a program: a form that this language leaves out: a list of bits as 1,0,1, an operator between arrays, a size that is no number, 0x. Do this: write #101 or $5; a loop over the elements; the number; section 1 of the guide.
 Order, of a program: a statement outside procedures, a NOTE or ACTION too late, no ENDPROC before. Do this: move it, or add the ENDPROC.
 Duplicate, of a program: a name or a label is declared twice, as in joined files. Do this: rename one.
 Undefined, of a program: a procedure, label or variable is missing or misspelt. Do this: add it, or correct the name.
@@ -71,7 +72,19 @@ spent, in a play: the turns were used up: the file waits without end, or needs m
 9, an exit code: a file could not be opened or read; nothing is written. Do this: look at the paths; a folder is no file.
 10, an exit code: the output could not be written; what came before may be cut. Do this: make room on the disk; read the pipe to its end.
 11, an exit code: there was no memory, or a word is not UTF-8; nothing is written. Do this: free memory; write the words in UTF-8.
+12, an exit code: of print, rewrite, trace, wave or link: the new text, the trace or the session is too long. Do this: see --explain TooLarge and TooLong; a session of link has at most 16,777,216 bytes.
+13, an exit code: of rewrite: the program sets a padding itself, R padding n. Do this: see --explain padding and --piece n.
+14, an exit code: of link: a byte is none of the protocol; the answers before it are written. Do this: look at what the debugger sent.
+15, an exit code: of trace: a clock differs, trace differs clock i. Do this: see --explain differs.
+16, an exit code: of trace or wave: a line of clocks is bad, R trace n BadLine. Do this: see --explain BadLine, and line n.
+17, an exit code: of quiet: the play is not quiet, not quiet piece p line n turn t and why. Do this: see --explain quiet and --piece p.
 125, an exit code: the program could not be built; nothing is written. Do this: read standard error; it says what is missing.
+TooLarge, of another program: R print TooLarge: the new text would have more than 4,194,304 bytes, or of rewrite more than 100,000 pieces. Do this: divide the program.
+TooLong, of another program: R trace TooLong: the trace has more than 67,108,864 bytes. Do this: play fewer turns with pins=yes.
+padding, of another program: R padding n: piece n sets a padding, so the program is not one for a part alone. Do this: leave its paddings out, or play it with place.
+differs, of another program: trace differs clock i: at clock i, from 1, TDO is not that of the board. Do this: look for another board, another part, or a digit that was changed.
+BadLine, of another program: R trace n BadLine: line n begins with C and a blank, and is not 1 to 64 digits from 0 to 7. Do this: look for a blank at its end, a carriage return, or a line that was cut.
+quiet, of another program: not quiet ..: a scan has not the length of the registers, or leads through a state of scans; so the play is not the same at each place of a chain. Do this: correct what the line names; section 4 of the guide.
 NOTE, a statement: gives a note, which list shows; it does nothing in a play. As in: NOTE \"KEY\" \"TEXT\";
 ACTION, a statement: names what one can play, and its procedures in their order. As in: ACTION A \"TEXT\" = P, Q OPTIONAL;
 PROCEDURE, a statement: begins a procedure, which sees the variables of the blocks after USES. As in: PROCEDURE P USES D;
@@ -105,4 +118,40 @@ FREQUENCY, a statement: writes the frequency of the clocks that follow. As in: F
 TRST, a statement: is not supported: write STATE RESET, if the part can be reset without its TRST* pin. As in: TRST 0 CYCLES;
 VECTOR, a statement: is not supported: a device has no pins here but those of its TAP. As in: VECTOR 3, #101;
 VMAP, a statement: is not supported: a device has no pins here but those of its TAP. As in: VMAP \"A\", \"B\";
+USES, in a statement: names the blocks whose variables the procedure sees. As in: PROCEDURE P USES D, Q;
+OPTIONAL, in a statement: marks a procedure that is played only if do names it. As in: ACTION A = P, Q OPTIONAL;
+RECOMMENDED, in a statement: marks a procedure that is played unless skip names it. As in: ACTION A = P, Q RECOMMENDED;
+THEN, in a statement: comes before the statement that is played if the bit is 1. As in: IF B THEN EXIT 1;
+TO, in a statement: comes before the limit of a loop. As in: FOR I = 0 TO 7;
+STEP, in a statement: comes before the step of a loop, which is 1 without it. As in: FOR I = 7 TO 0 STEP -1;
+CAPTURE, in a statement: stores what comes out at the clocks of the data; the array is at least as long. As in: DRSCAN 8, $3C, CAPTURE A[];
+COMPARE, in a statement: sets a bit to 1 if what comes out is the first array in each bit for which the second, the mask, has a 1. As in: DRSCAN 8, $3C, COMPARE $A5, $FF, B;
+CYCLES, in a statement: comes after a count of clocks. As in: WAIT IDLE, 5 CYCLES;
+USEC, in a statement: comes after a count of microseconds. As in: WAIT IDLE, 100 USEC;
+HZ, in a statement: comes after a frequency. As in: FREQUENCY 1E6 HZ;
+ABS, in a statement: gives an integer without its sign. As in: N = ABS(N);
+INT, in a statement: gives the integer whose 32 bits are the first bits of an array. As in: N = INT(A[]);
+BOOL, in a statement: gives the 32 bits of an integer as an array. As in: A[] = BOOL(N);
+CHR$, in a statement: writes the byte of this number, 0 to 255. As in: PRINT CHR$(65);
+MAX, in a statement: is not supported: leave it out with what belongs to it; there is no time that could run out. As in: WAIT 5 CYCLES, MAX 9 CYCLES;
+CEIL, in a statement: is not supported: integers have no fraction. As in: N = CEIL(M);
+FLOOR, in a statement: is not supported: integers have no fraction. As in: N = FLOOR(M);
+LOG2, in a statement: is not supported: write the number, or shift in a loop. As in: N = LOG2(M);
+SQRT, in a statement: is not supported: write the number. As in: N = SQRT(M);
+RESET, a state: is stable; the instruction is that of the identity, or BYPASS if the part has none. In IEEE 1149.1: Test-Logic-Reset.
+IDLE, a state: is stable; here a part works, as while it erases or programs. In IEEE 1149.1: Run-Test/Idle.
+DRSELECT, a state: is on the way to a scan of the data registers. In IEEE 1149.1: Select-DR-Scan.
+DRCAPTURE, a state: loads the data register that the instruction selects. In IEEE 1149.1: Capture-DR.
+DRSHIFT, a state: moves the data register by a bit at each clock. In IEEE 1149.1: Shift-DR.
+DREXIT1, a state: is on the way out of DRSHIFT. In IEEE 1149.1: Exit1-DR.
+DRPAUSE, a state: is stable; a scan of the data registers may end here before its update. In IEEE 1149.1: Pause-DR.
+DREXIT2, a state: is on the way out of DRPAUSE. In IEEE 1149.1: Exit2-DR.
+DRUPDATE, a state: lets what was shifted into the data register take effect. In IEEE 1149.1: Update-DR.
+IRSELECT, a state: is on the way to a scan of the instruction registers. In IEEE 1149.1: Select-IR-Scan.
+IRCAPTURE, a state: loads the instruction register. In IEEE 1149.1: Capture-IR.
+IRSHIFT, a state: moves the instruction register by a bit at each clock. In IEEE 1149.1: Shift-IR.
+IREXIT1, a state: is on the way out of IRSHIFT. In IEEE 1149.1: Exit1-IR.
+IRPAUSE, a state: is stable; a scan of the instruction registers may end here before its update. In IEEE 1149.1: Pause-IR.
+IREXIT2, a state: is on the way out of IRPAUSE. In IEEE 1149.1: Exit2-IR.
+IRUPDATE, a state: lets the instruction that was shifted in take effect. In IEEE 1149.1: Update-IR.
 ";

@@ -11,11 +11,13 @@ use stapl_lexer::Reason;
 use std::alloc::{AllocError, Global};
 use tool_io::{Failed, Lines, Sink, put_word_line};
 
-// Whether a line begins with these bytes.
+// Whether a line begins with these bytes, in whatever letter case.
 fn is_about(line: &str, head: &[u8]) -> bool
     ensures { result ≡ is_about head.now line.now }
 {
-    line.as_bytes().starts_with(head)
+    let bytes = line.as_bytes();
+    let most = head.len().min(bytes.len());
+    bytes[..most].eq_ignore_ascii_case(head)
 }
 
 // One text after another.
