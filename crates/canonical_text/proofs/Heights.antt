@@ -26,12 +26,12 @@ walk_on d h m k [] b w v = subst (λ (j : ℕ). Walk d j b k) (sym w) v
 walk_on d h m k (t ∷ a) b w v = (w.0, w.1, walk_on d (height h t) m k a b w.2 v)
 
 -- the walk after a front
-record Behind (d : ℕ) (s : List Symbol) (k : ℕ) : Type 0 where
+record AfterPart (d : ℕ) (s : List Symbol) (k : ℕ) : Type 0 where
   from : ℕ
   within : from ≤ d
   walk : Walk d from s k
 
-after : (d h k : ℕ) (a b : List Symbol) → h ≤ d → Walk d h (a ++ b) k → Behind d b k
+after : (d h k : ℕ) (a b : List Symbol) → h ≤ d → Walk d h (a ++ b) k → AfterPart d b k
 after d h k [] b le w = record { from = h; within = le; walk = w }
 after d h k (t ∷ a) b le w = after d (height h t) k a b w.1 w.2
 

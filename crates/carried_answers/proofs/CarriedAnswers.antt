@@ -62,12 +62,12 @@ bad_choice_only p choices.bad_choice e = refl
 bad_choice_only p (choices.chosen ps) e = absurd cc
 
 -- what was chosen without the new procedure
-record ChosenBehind (p : ℕ) (x : Choice) (ps : List ℕ) : Type 0 where
+record ChosenAfter (p : ℕ) (x : Choice) (ps : List ℕ) : Type 0 where
   others : List ℕ
   are : x ≡ choices.chosen others
   whole : p ∷ others ≡ ps
 
-chosen_only : (p : ℕ) (x : Choice) (ps : List ℕ) → choice_with p x ≡ choices.chosen ps → ChosenBehind p x ps
+chosen_only : (p : ℕ) (x : Choice) (ps : List ℕ) → choice_with p x ≡ choices.chosen ps → ChosenAfter p x ps
 chosen_only p choices.no_action ps e = absurd cc
 chosen_only p choices.bad_choice ps e = absurd cc
 chosen_only p (choices.chosen qs) ps e = record { others = qs; are = refl; whole = inner e }
@@ -104,7 +104,7 @@ module _ (request : PlayRequest) (no_report : request.report ≡ false) (p : ℕ
   to_old text status (bad_choice e) = bad_choice (bad_choice_only p old (sym same ∙ e))
   to_old text status (bad_place ps e lacks) = absurd (true≢false lacks)
   to_old text status (played ps ending e has ended) =
-      let c : ChosenBehind p old ps = chosen_only p old ps (sym same ∙ e) in
+      let c : ChosenAfter p old ps = chosen_only p old ps (sym same ∙ e) in
       let s : AreSamePlays (old_play c.others) (new_play (p ∷ c.others)) = plays c.others c.are in
       let over : ending_of (new_play (p ∷ c.others)).outcome ≡ Some ending = ap (λ qs. ending_of (new_play qs).outcome) c.whole ∙ ended in
       subst (λ (qs : List ℕ). PlaysOld (asked_text (carried_request request) (new_play qs).events (new_play qs).chain.far ending) (done_with ending)) c.whole

@@ -24,7 +24,7 @@ use Rattle.code_files.proofs.FieldsAgain.{field_again, listed_again}
 use Rattle.code_files.proofs.PartsAgain.{made_again, followed_again, each_again}
 use Rattle.code_files.proofs.InstrsAgain.{AreFew, instr_again}
 use Rattle.code_files.proofs.LiteralsAgain.{literal_again}
-use Rattle.code_files.proofs.ListsAgain.{FitsBehind, variable_again, ends_wide, variables_after, text_again, pairs_after, ComesAfter, procedure_again, ActsAfter, action_again}
+use Rattle.code_files.proofs.ListsAgain.{FitsAfter, variable_again, ends_wide, variables_after, text_again, pairs_after, ComesAfter, procedure_again, ActsAfter, action_again}
 
 regroup : (a b c d e f g rest : List ℕ) → (a ++ b ++ c ++ d ++ e ++ f ++ g) ++ rest ≡ a ++ (b ++ (c ++ (d ++ (e ++ (f ++ (g ++ rest))))))
 regroup a b c d e f g rest = simp append_assoc
@@ -38,7 +38,7 @@ sizes_few (v ∷ variables) (suc n) each = sizes_few variables n each.1
 module _ (code : CodeLists) (h : IsInRange code) (few : IsCountable code) (fits : IsFitting code) where
   variables_again : (rest : List ℕ) → listed_in variable_at 0 any_end (counted variable code.variables ++ rest) ≡ Ok (code.variables, rest)
   variables_again rest =
-      listed_again variable_at variable FitsBehind (λ earlier v r fit. variable_again earlier v r (ends_wide earlier v.kind) fit) 0 any_end code.variables rest
+      listed_again variable_at variable FitsAfter (λ earlier v r fit. variable_again earlier v r (ends_wide earlier v.kind) fit) 0 any_end code.variables rest
       (omega arith) (omega arith) few.variables
       (variables_after [] code.variables (recursion_from_All IsVariable code.variables h.variables.each) h.variables.integers h.variables.booleans)
 

@@ -16,12 +16,12 @@ use Rattle.code_files.specs.Reading.{field, listed_in, any_end}
 use Rattle.code_files.specs.ReadInstrs.{instr_at}
 use Rattle.code_files.specs.ReadFiles.{is_head, profile_of, head_at, variable_at, literal_at, text_at, procedure_at, action_at, code_at}
 use Rattle.code_files.proofs.FieldsAgain.{AllAfter}
-use Rattle.code_files.proofs.ListsAgain.{FitsBehind, ComesAfter}
+use Rattle.code_files.proofs.ListsAgain.{FitsAfter, ComesAfter}
 use Rattle.code_files.proofs.FieldsTaken.{Takes, IsRead, IsFrom, IsField, AreEach, field_takes, respelled, made_takes, followed_takes, listed_takes, each_takes, all_of}
 use Rattle.code_files.proofs.PartsTaken.{Any}
 use Rattle.code_files.proofs.InstrsTaken.{IsGood, instr_takes}
 use Rattle.code_files.proofs.LiteralsTaken.{literal_takes}
-use Rattle.code_files.proofs.ListsTaken.{KeepLimits, limits_kept, size_small, variable_takes, IsText, text_takes, pairs_of, no_pairs, StartsAfter, procedure_takes, in_order, none_below, ActsBehind, action_takes}
+use Rattle.code_files.proofs.ListsTaken.{KeepLimits, limits_kept, size_small, variable_takes, IsText, text_takes, pairs_of, no_pairs, StartsAfter, procedure_takes, in_order, none_below, ActsAfterOthers, action_takes}
 
 -- a code whose fields are in range
 pub record IsWhole (code : CodeLists) : Type 0 where
@@ -29,20 +29,20 @@ pub record IsWhole (code : CodeLists) : Type 0 where
   pub fitting : IsFitting code
 
 abbrev Variables : List VarDef → Type 0
-Variables xs = IsFrom 0 any_end (length xs) × AllAfter FitsBehind [] xs
+Variables xs = IsFrom 0 any_end (length xs) × AllAfter FitsAfter [] xs
 
 abbrev Procedures : List ProcDef → Type 0
 Procedures xs = IsFrom 1 any_end (length xs) × AllAfter StartsAfter [] xs
 
 abbrev Actions : ℕ → List ActionDef → Type 0
-Actions procedures xs = IsFrom 1 any_end (length xs) × AllAfter (ActsBehind procedures) [] xs
+Actions procedures xs = IsFrom 1 any_end (length xs) × AllAfter (ActsAfterOthers procedures) [] xs
 
 variables_are : (xs : List VarDef) → Variables xs → AreVariables xs
 variables_are xs h = let kept : KeepLimits [] xs = limits_kept [] xs (omega arith) (omega arith) h.1 in
     record { each = kept.each; integers = kept.ints; booleans = kept.bits }
 
 sizes_are : (xs : List VarDef) → Variables xs → All (λ (v : VarDef). v.size < 2 ^ 32) xs
-sizes_are xs h = all_of FitsBehind (λ (v : VarDef). v.size < 2 ^ 32) size_small [] xs h.1
+sizes_are xs h = all_of FitsAfter (λ (v : VarDef). v.size < 2 ^ 32) size_small [] xs h.1
 
 procedures_are : (xs : List ProcDef) → Procedures xs → AreProcedures xs
 procedures_are xs h =
@@ -60,7 +60,7 @@ entries_are xs h = all_of StartsAfter (λ (p : ProcDef). p.entry < 2 ^ 32) (λ _
 actions_are : (procedures : ℕ) (xs : List ActionDef) → Actions procedures xs → AreActions procedures xs
 actions_are procedures xs h = record {
   some = h.0.0;
-  each = all_of (ActsBehind procedures) (IsAction procedures) (λ _ a is. is.1) [] xs h.1;
+  each = all_of (ActsAfterOthers procedures) (IsAction procedures) (λ _ a is. is.1) [] xs h.1;
   names_apart = pairs_of (λ (a b : ActionDef). a.name ≢ b.name) (IsAction procedures) [] xs (no_pairs (λ (a b : ActionDef). a.name ≢ b.name)) h.1;
 }
 
@@ -103,7 +103,7 @@ code_takes : Takes [] code_at file IsWhole
 unfolding file
 code_takes =
     followed_takes [] head_at _ head Any file IsWhole head_takes (λ profile _.
-    followed_takes _ (listed_in variable_at 0 any_end) _ (counted variable) Variables file IsWhole (listed_takes variable_at variable FitsBehind variable_takes 0 any_end) (λ variables v.
+    followed_takes _ (listed_in variable_at 0 any_end) _ (counted variable) Variables file IsWhole (listed_takes variable_at variable FitsAfter variable_takes 0 any_end) (λ variables v.
     followed_takes _ (listed_in (λ _. literal_at) 0 any_end) _ (counted literal) (AreEach IsLiteral 0 any_end) file IsWhole
     (each_takes literal_at literal IsLiteral literal_takes 0 any_end) (λ literals l.
     followed_takes _ (listed_in (λ _. text_at) 0 any_end) _ (counted text) (AreEach IsText 0 any_end) file IsWhole
@@ -111,7 +111,7 @@ code_takes =
     followed_takes _ (listed_in procedure_at 1 any_end) _ (counted procedure) Procedures file IsWhole
     (listed_takes procedure_at procedure StartsAfter procedure_takes 1 any_end) (λ procedures p.
     followed_takes _ (listed_in (action_at (length procedures)) 1 any_end) _ (counted action) (Actions (length procedures)) file IsWhole
-    (listed_takes (action_at (length procedures)) action (ActsBehind (length procedures)) (action_takes (length procedures)) 1 any_end) (λ actions a.
+    (listed_takes (action_at (length procedures)) action (ActsAfterOthers (length procedures)) (action_takes (length procedures)) 1 any_end) (λ actions a.
     made_takes _ (λ xs. record { profile = profile; variables = variables; literals = literals; texts = texts; procedures = procedures; actions = actions; instrs = xs })
     (listed_in (λ _. instr_at variables (length literals) (length texts) (length procedures)) 0 any_end) (counted instr)
     (AreEach (IsGood variables (length literals) (length texts) (length procedures)) 0 any_end) file IsWhole

@@ -26,10 +26,10 @@ use Rattle.code_files.proofs.PartsAgain.{made_again, followed_again, each_again}
 
 -- ---- variables
 
-abbrev pub FitsBehind : List VarDef → VarDef → Type 0
-FitsBehind earlier v = (v.kind < 4) × (1 ≤ v.size) × (v.size < size_end earlier v.kind)
+abbrev pub FitsAfter : List VarDef → VarDef → Type 0
+FitsAfter earlier v = (v.kind < 4) × (1 ≤ v.size) × (v.size < size_end earlier v.kind)
 
-pub variable_again : (earlier : List VarDef) (v : VarDef) (rest : List ℕ) → size_end earlier v.kind ≤ 2 ^ 32 → FitsBehind earlier v
+pub variable_again : (earlier : List VarDef) (v : VarDef) (rest : List ℕ) → size_end earlier v.kind ≤ 2 ^ 32 → FitsAfter earlier v
     → variable_at earlier (variable v ++ rest) ≡ Ok (v, rest)
 variable_again earlier v rest wide fits =
     followed_again (with_byte 4 (λ kind. kind)) _ (v.kind ∷ (number v.size ++ rest)) v.kind (number v.size ++ rest)
@@ -46,7 +46,7 @@ ends_wide earlier (suc (suc (suc k))) = omega arith
 fits_after : (earlier : List VarDef) (kind size : ℕ) → IsVariable (record { kind = kind; size = size })
     → sum_by (elements_of 0 2) earlier + elements_of 0 2 (record { kind = kind; size = size }) ≤ 1048576
     → sum_by (elements_of 1 3) earlier + elements_of 1 3 (record { kind = kind; size = size }) ≤ 16777216
-    → FitsBehind earlier (record { kind = kind; size = size })
+    → FitsAfter earlier (record { kind = kind; size = size })
 fits_after earlier zero size is ints bits = let one = is.scalar (omega arith) in (omega arith, is.some, omega arith)
 fits_after earlier (suc zero) size is ints bits = let one = is.scalar (omega arith) in (omega arith, is.some, omega arith)
 fits_after earlier (suc (suc zero)) size is ints bits = (omega arith, is.some, omega arith)
@@ -60,7 +60,7 @@ taken_of scalar array earlier v xs =
     ∙ ap (λ (n : ℕ). sum_by (elements_of scalar array) earlier + n) (sum_by-cons (elements_of scalar array) v xs)
 
 pub variables_after : (earlier xs : List VarDef) → AllByRecursion IsVariable xs → sum_by (elements_of 0 2) (earlier ++ xs) ≤ 1048576
-    → sum_by (elements_of 1 3) (earlier ++ xs) ≤ 16777216 → AllAfter FitsBehind earlier xs
+    → sum_by (elements_of 1 3) (earlier ++ xs) ≤ 16777216 → AllAfter FitsAfter earlier xs
 variables_after earlier [] each ints bits = tt
 variables_after earlier (v ∷ xs) each ints bits = (
   fits_after earlier v.kind v.size each.0 (omega (arith, ints, taken_of 0 2 earlier v xs)) (omega (arith, bits, taken_of 1 3 earlier v xs)),

@@ -21,16 +21,16 @@ use Rattle.code_files.specs.Reading.{field, listed_in, any_end}
 use Rattle.code_files.specs.ReadInstrs.{with_number, with_byte, with_byte_from}
 use Rattle.code_files.specs.ReadFiles.{size_end, variable_at, text_at, is_spelled, name_at, least_entry, procedure_at, item_at, action_at}
 use Rattle.code_files.proofs.FieldsAgain.{AllAfter}
-use Rattle.code_files.proofs.ListsAgain.{FitsBehind, ends_wide, ComesAfter}
+use Rattle.code_files.proofs.ListsAgain.{FitsAfter, ends_wide, ComesAfter}
 use Rattle.code_files.proofs.Entries.{least_push}
 use Rattle.code_files.proofs.FieldsTaken.{Takes, IsFrom, IsField, AreEach, one, field_takes, respelled, followed_takes, made_takes, numbers_take, bytes_take, each_takes}
 
 -- ---- variables
 
-pub variable_takes : (earlier : List VarDef) → Takes [] (variable_at earlier) variable (FitsBehind earlier)
+pub variable_takes : (earlier : List VarDef) → Takes [] (variable_at earlier) variable (FitsAfter earlier)
 variable_takes earlier =
-    followed_takes [] (with_byte 4 (λ kind. kind)) _ one (IsFrom 0 4) variable (FitsBehind earlier) (bytes_take [] 0 4 (λ kind. kind) one (IsFrom 0 4) (λ n. refl) (λ n h. h))
-    (λ kind is. numbers_take _ 1 (size_end earlier kind) (λ size. record { kind = kind; size = size }) variable (FitsBehind earlier) (λ n. refl) (λ n h. (is.1, h.0, h.1)))
+    followed_takes [] (with_byte 4 (λ kind. kind)) _ one (IsFrom 0 4) variable (FitsAfter earlier) (bytes_take [] 0 4 (λ kind. kind) one (IsFrom 0 4) (λ n. refl) (λ n h. h))
+    (λ kind is. numbers_take _ 1 (size_end earlier kind) (λ size. record { kind = kind; size = size }) variable (FitsAfter earlier) (λ n. refl) (λ n h. (is.1, h.0, h.1)))
 
 -- what a variable takes of the limits
 pub record HasPlace (earlier : List VarDef) (v : VarDef) : Type 0 where
@@ -39,7 +39,7 @@ pub record HasPlace (earlier : List VarDef) (v : VarDef) : Type 0 where
   pub bits : sum_by (elements_of 1 3) earlier + elements_of 1 3 v ≤ 16777216
 
 place_of : (earlier : List VarDef) (kind size : ℕ) → sum_by (elements_of 0 2) earlier ≤ 1048576 → sum_by (elements_of 1 3) earlier ≤ 16777216
-    → FitsBehind earlier (record { kind = kind; size = size }) → HasPlace earlier (record { kind = kind; size = size })
+    → FitsAfter earlier (record { kind = kind; size = size }) → HasPlace earlier (record { kind = kind; size = size })
 place_of earlier zero size ints bits fits = record {
   is = record { kind = omega arith; some = fits.1; scalar = λ _. omega (arith, fits.1, fits.2); boolean_array = λ h. absurd (omega (arith, h)) };
   ints = omega (arith, fits.2);
@@ -69,7 +69,7 @@ pub record KeepLimits (earlier xs : List VarDef) : Type 0 where
   pub bits : sum_by (elements_of 1 3) (earlier ++ xs) ≤ 16777216
 
 pub limits_kept : (earlier xs : List VarDef) → sum_by (elements_of 0 2) earlier ≤ 1048576 → sum_by (elements_of 1 3) earlier ≤ 16777216
-    → AllAfter FitsBehind earlier xs → KeepLimits earlier xs
+    → AllAfter FitsAfter earlier xs → KeepLimits earlier xs
 limits_kept earlier [] ints bits h = record {
   each = All-nil IsVariable;
   ints = subst (λ (ys : List VarDef). sum_by (elements_of 0 2) ys ≤ 1048576) (sym (append-nil earlier)) ints;
@@ -86,7 +86,7 @@ limits_kept earlier (x ∷ xs) ints bits h =
       bits = subst (λ (ys : List VarDef). sum_by (elements_of 1 3) ys ≤ 16777216) (append_assoc earlier (x ∷ []) xs) rest.bits;
     }
 
-pub size_small : (earlier : List VarDef) (v : VarDef) → FitsBehind earlier v → v.size < 2 ^ 32
+pub size_small : (earlier : List VarDef) (v : VarDef) → FitsAfter earlier v → v.size < 2 ^ 32
 size_small earlier v h = omega (arith, h.2, ends_wide earlier v.kind)
 
 -- ---- texts
@@ -203,13 +203,13 @@ item_takes procedures =
     (numbers_take [] 0 procedures (λ p. p) number (IsFrom 0 procedures) (λ n. refl) (λ n h. h))
     (λ p is. bytes_take _ 0 3 (λ flag. record { procedure = p; flag = flag }) item (IsItem procedures) (λ n. refl) (λ n h. record { there = is.1; flag = omega (arith, h.1) }))
 
-abbrev pub ActsBehind : ℕ → List ActionDef → ActionDef → Type 0
-ActsBehind procedures earlier a = All (λ (b : ActionDef). b.name ≢ a.name) earlier × IsAction procedures a
+abbrev pub ActsAfterOthers : ℕ → List ActionDef → ActionDef → Type 0
+ActsAfterOthers procedures earlier a = All (λ (b : ActionDef). b.name ≢ a.name) earlier × IsAction procedures a
 
-pub action_takes : (procedures : ℕ) (earlier : List ActionDef) → Takes [] (action_at procedures earlier) action (ActsBehind procedures earlier)
+pub action_takes : (procedures : ℕ) (earlier : List ActionDef) → Takes [] (action_at procedures earlier) action (ActsAfterOthers procedures earlier)
 action_takes procedures earlier =
-    followed_takes [] (name_at (map (λ (b : ActionDef). b.name) earlier)) _ name (IsNewName (λ (b : ActionDef). b.name) earlier) action (ActsBehind procedures earlier)
+    followed_takes [] (name_at (map (λ (b : ActionDef). b.name) earlier)) _ name (IsNewName (λ (b : ActionDef). b.name) earlier) action (ActsAfterOthers procedures earlier)
     (name_takes (λ (b : ActionDef). b.name) earlier)
     (λ word new. made_takes _ (λ items. record { name = word; items = items }) (listed_in (λ _. item_at procedures) 1 any_end) (counted item) (AreEach (IsItem procedures) 1 any_end)
-    action (ActsBehind procedures earlier) (each_takes (item_at procedures) item (IsItem procedures) (item_takes procedures) 1 any_end)
+    action (ActsAfterOthers procedures earlier) (each_takes (item_at procedures) item (IsItem procedures) (item_takes procedures) 1 any_end)
     (λ items. refl) (λ items h. (new.0, record { named = new.1; some = h.0.0; each = h.1 })))

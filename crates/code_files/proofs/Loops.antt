@@ -3,7 +3,7 @@ use Rattle.std.proofs.Common.{◌≡◌, ◌≤◌, ◌<◌, ◌+◌, ◌-◌, �
 use Rattle.code_files.specs.declared.fault.Fault.{Fault}
 use Rattle.code_files.specs.declared.fault.Stop.{Stop}
 use Rattle.code_files.specs.declared.fault.Stop.TheVariants as stops
-use Rattle.code_files.specs.Reading.{Fails, items_at}
+use Rattle.code_files.specs.Reading.{ReadingFails, items_at}
 use Rattle.code_files.specs.ReadInstrs.{Reads}
 
 pub goes_on : {A : Type 0} (item : List A → Reads A) (earlier : List A) (count i : ℕ) (bytes : List ℕ) (x : A) (after : List ℕ) (total : Result (List A × List ℕ) Fault)
@@ -15,7 +15,7 @@ goes_on item earlier count i bytes x after total lt read so_far =
     sym one ∙ so_far
 
 pub ends : {A : Type 0} (item : List A → Reads A) (e : Stop) (earlier : List A) (count i : ℕ) (bytes : List ℕ) (total : Result (List A × List ℕ) Fault)
-    → i < count → Fails e (item earlier bytes) → items_at item earlier (count - i) bytes ≡ total → Fails e total
+    → i < count → ReadingFails e (item earlier bytes) → items_at item earlier (count - i) bytes ≡ total → ReadingFails e total
 unfolding items_at
 ends item stops.Memory earlier count i bytes total lt read so_far = tt
 ends item (stops.At f) earlier count i bytes total lt read so_far =

@@ -26,8 +26,8 @@ size_end earlier (suc (suc zero)) = 1048577 - sum_by (elements_of 0 2) earlier
 size_end earlier (suc (suc (suc k))) = min 4194305 (16777217 - sum_by (elements_of 1 3) earlier)
 
 -- variables of a kind whose size is below this keep the limits
-abbrev pub HasRoom : ℕ → ℕ → ℕ → ℕ → Type 0
-HasRoom ints bits kind end =
+abbrev pub HasRoomFor : ℕ → ℕ → ℕ → ℕ → Type 0
+HasRoomFor ints bits kind end =
     (size : ℕ) → size < end → (ints + elements_of 0 2 (record { kind = kind; size = size }) ≤ 1048576)
     × (bits + elements_of 1 3 (record { kind = kind; size = size }) ≤ 16777216)
 

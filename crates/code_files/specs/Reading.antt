@@ -14,13 +14,13 @@ abbrev pub ◌>>=◌ : {A B : Type 0} → Result A Fault → (A → Result B Fau
 (Err e) >>= f = Err e
 
 -- What a function returned, seen by view, is what reading gives, unless memory ran out.
-abbrev pub Fails : {Y : Type 0} → Stop → Result Y Fault → Type 0
-Fails stops.Memory read = Unit {0}
-Fails (stops.At f) read = read ≡ Err f
+abbrev pub ReadingFails : {Y : Type 0} → Stop → Result Y Fault → Type 0
+ReadingFails stops.Memory read = Unit {0}
+ReadingFails (stops.At f) read = read ≡ Err f
 
-abbrev pub Gives : {X Y : Type 0} → (X → Y) → Result X Stop → Result Y Fault → Type 0
-Gives view (Ok x) read = read ≡ Ok (view x)
-Gives view (Err e) read = Fails e read
+abbrev pub ReadingGives : {X Y : Type 0} → (X → Y) → Result X Stop → Result Y Fault → Type 0
+ReadingGives view (Ok x) read = read ≡ Ok (view x)
+ReadingGives view (Err e) read = ReadingFails e read
 
 -- A fault is told by how many bytes stand from its place to the end.
 abbrev pub fault : ℕ → CodeReason → Fault

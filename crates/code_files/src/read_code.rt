@@ -1,6 +1,6 @@
 //! A code, read from the front of the bytes.
 ghost use Rattle.std.specs.Prelude.{◌≡◌, length};
-ghost use Rattle.code_files.specs.Reading.{Gives, listed_in, any_end};
+ghost use Rattle.code_files.specs.Reading.{ReadingGives, listed_in, any_end};
 ghost use Rattle.code_files.specs.ReadInstrs.{instr_at};
 ghost use Rattle.code_files.specs.ReadFiles.{code_at};
 
@@ -27,7 +27,7 @@ fn instrs_after<'a>(
     bytes: &'a [u8],
 ) -> Result<(ItemList<Instr>, &'a [u8]), Stop>
     ensures { let item = instr_at variables.now (length literals.now) (length texts.now) (length procedures.now) in
-        Gives (λ x. (x.0, x.1.now)) result (listed_in (λ _. item) 0 any_end bytes.now) }
+        ReadingGives (λ x. (x.0, x.1.now)) result (listed_in (λ _. item) 0 any_end bytes.now) }
 {
     let counts = Counts {
         variables: variables.as_slice(),
@@ -40,7 +40,7 @@ fn instrs_after<'a>(
 
 /// The lists of a code, and the bytes after the last one.
 pub(crate) fn code_of(alloc: Global, bytes: &[u8]) -> Result<(CodeLists, &[u8]), Stop>
-    ensures { Gives (λ x. (x.0, x.1.now)) result (code_at bytes.now) }
+    ensures { ReadingGives (λ x. (x.0, x.1.now)) result (code_at bytes.now) }
 {
     let (profile, rest) = head_of(bytes)?;
     let (variables, rest) = variables_of(alloc, rest)?;

@@ -1,7 +1,7 @@
 //! Instructions, read from the front of the bytes.
 ghost use Rattle.std.specs.Prelude.{◌≡◌, ◌≤◌, ◌-◌, slice_get};
 ghost use Rattle.stapl_code.specs.Ranges.{size_of};
-ghost use Rattle.code_files.specs.Reading.{Gives};
+ghost use Rattle.code_files.specs.Reading.{ReadingGives};
 ghost use Rattle.code_files.specs.ReadInstrs.{row, instr_table, instr_at};
 
 use crate::fault::Stop;
@@ -37,7 +37,7 @@ fn operand_instr_of<'a>(counts: Counts, tag: u8, rest: &'a [u8]) -> Result<(Inst
     requires low { 1 ≤ tag }
     requires high { tag ≤ 4 }
     ensures { let c = counts.entry in let table = instr_table c.variables.now c.literals c.texts c.procedures in
-        Gives (λ x. (x.0, x.1.now)) result (row (slice_get table (tag - 1)) rest.now) }
+        ReadingGives (λ x. (x.0, x.1.now)) result (row (slice_get table (tag - 1)) rest.now) }
 {
     match tag {
         1 => {
@@ -65,7 +65,7 @@ fn variable_instr_of<'a>(counts: Counts, tag: u8, rest: &'a [u8]) -> Result<(Ins
     requires low { 5 ≤ tag }
     requires high { tag ≤ 9 }
     ensures { let c = counts.entry in let table = instr_table c.variables.now c.literals c.texts c.procedures in
-        Gives (λ x. (x.0, x.1.now)) result (row (slice_get table (tag - 1)) rest.now) }
+        ReadingGives (λ x. (x.0, x.1.now)) result (row (slice_get table (tag - 1)) rest.now) }
 {
     let (n, rest) = number_in(0, counts.variables.len(), rest)?;
     match tag {
@@ -83,7 +83,7 @@ fn value_instr_of<'a>(counts: Counts, tag: u8, rest: &'a [u8]) -> Result<(Instr,
     requires low { 10 ≤ tag }
     requires high { tag ≤ 14 }
     ensures { let c = counts.entry in let table = instr_table c.variables.now c.literals c.texts c.procedures in
-        Gives (λ x. (x.0, x.1.now)) result (row (slice_get table (tag - 1)) rest.now) }
+        ReadingGives (λ x. (x.0, x.1.now)) result (row (slice_get table (tag - 1)) rest.now) }
 {
     let variables = counts.variables.len();
     let literals = counts.literals;
@@ -124,7 +124,7 @@ fn jump_instr_of<'a>(
     requires low { 15 ≤ tag }
     requires high { tag ≤ 17 }
     ensures { let c = counts.entry in let table = instr_table c.variables.now c.literals c.texts c.procedures in
-        Gives (λ x. (x.0, x.1.now)) result (row (slice_get table (tag - 1)) rest.now) }
+        ReadingGives (λ x. (x.0, x.1.now)) result (row (slice_get table (tag - 1)) rest.now) }
 {
     let variables = counts.variables.len();
     match tag {
@@ -151,7 +151,7 @@ fn loop_instr_of<'a>(counts: Counts, tag: u8, rest: &'a [u8]) -> Result<(Instr, 
     requires low { 18 ≤ tag }
     requires high { tag ≤ 21 }
     ensures { let c = counts.entry in let table = instr_table c.variables.now c.literals c.texts c.procedures in
-        Gives (λ x. (x.0, x.1.now)) result (row (slice_get table (tag - 1)) rest.now) }
+        ReadingGives (λ x. (x.0, x.1.now)) result (row (slice_get table (tag - 1)) rest.now) }
 {
     let variables = counts.variables.len();
     match tag {
@@ -186,7 +186,7 @@ fn text_instr_of<'a>(
     requires low { 22 ≤ tag }
     requires high { tag ≤ 27 }
     ensures { let c = counts.entry in let table = instr_table c.variables.now c.literals c.texts c.procedures in
-        Gives (λ x. (x.0, x.1.now)) result (row (slice_get table (tag - 1)) rest.now) }
+        ReadingGives (λ x. (x.0, x.1.now)) result (row (slice_get table (tag - 1)) rest.now) }
 {
     let variables = counts.variables.len();
     let literals = counts.literals;
@@ -221,7 +221,7 @@ fn chain_instr_of<'a>(
     requires low { 28 ≤ tag }
     requires high { tag ≤ 33 }
     ensures { let c = counts.entry in let table = instr_table c.variables.now c.literals c.texts c.procedures in
-        Gives (λ x. (x.0, x.1.now)) result (row (slice_get table (tag - 1)) rest.now) }
+        ReadingGives (λ x. (x.0, x.1.now)) result (row (slice_get table (tag - 1)) rest.now) }
 {
     let variables = counts.variables.len();
     let literals = counts.literals;
@@ -266,7 +266,7 @@ pub(crate) fn instr_of<'a>(
     bytes: &'a [u8],
 ) -> Result<(Instr, &'a [u8]), Stop>
     ensures { let c = counts.entry in
-        Gives (λ x. (x.0, x.1.now)) result (instr_at c.variables.now c.literals c.texts c.procedures bytes.now) }
+        ReadingGives (λ x. (x.0, x.1.now)) result (instr_at c.variables.now c.literals c.texts c.procedures bytes.now) }
 {
     let (tag, rest) = byte_in(1, 34, bytes)?;
     match tag {

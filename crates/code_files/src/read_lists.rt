@@ -1,6 +1,6 @@
 //! Lists inside instructions, read from the front of the bytes.
 ghost use Rattle.std.specs.Prelude.{◌≡◌, []};
-ghost use Rattle.code_files.specs.Reading.{Gives, items_at, listed_in};
+ghost use Rattle.code_files.specs.Reading.{ReadingGives, items_at, listed_in};
 ghost use Rattle.code_files.specs.ReadInstrs.{integer_at, part_at, state_at};
 
 use crate::fault::Stop;
@@ -12,7 +12,7 @@ use std::alloc::Global;
 use tap_states::Tap;
 
 fn integers_at(alloc: Global, count: u32, bytes: &[u8]) -> Result<(Vec<i32>, &[u8]), Stop>
-    ensures { Gives (λ x. (x.0.items, x.1.now)) result (items_at (λ _. integer_at) [] count bytes.now) }
+    ensures { ReadingGives (λ x. (x.0.items, x.1.now)) result (items_at (λ _. integer_at) [] count bytes.now) }
 {
     let mut items = Vec::new(alloc);
     let mut rest = bytes;
@@ -31,7 +31,7 @@ pub(crate) fn integers_of(
     end: usize,
     bytes: &[u8],
 ) -> Result<(ItemList<i32>, &[u8]), Stop>
-    ensures { Gives (λ x. (x.0, x.1.now)) result (listed_in (λ _. integer_at) 1 end bytes.now) }
+    ensures { ReadingGives (λ x. (x.0, x.1.now)) result (listed_in (λ _. integer_at) 1 end bytes.now) }
 {
     let (count, rest) = number_in(1, end, bytes)?;
     let (items, rest) = integers_at(alloc, count, rest)?;
@@ -44,7 +44,7 @@ fn parts_at(
     count: u32,
     bytes: &[u8],
 ) -> Result<(Vec<PrintPart>, &[u8]), Stop>
-    ensures { Gives (λ x. (x.0.items, x.1.now)) result (items_at (λ _. part_at texts) [] count bytes.now) }
+    ensures { ReadingGives (λ x. (x.0.items, x.1.now)) result (items_at (λ _. part_at texts) [] count bytes.now) }
 {
     let mut items = Vec::new(alloc);
     let mut rest = bytes;
@@ -64,7 +64,7 @@ pub(crate) fn parts_of(
     end: usize,
     bytes: &[u8],
 ) -> Result<(ItemList<PrintPart>, &[u8]), Stop>
-    ensures { Gives (λ x. (x.0, x.1.now)) result (listed_in (λ _. part_at texts) 1 end bytes.now) }
+    ensures { ReadingGives (λ x. (x.0, x.1.now)) result (listed_in (λ _. part_at texts) 1 end bytes.now) }
 {
     let (count, rest) = number_in(1, end, bytes)?;
     let (items, rest) = parts_at(alloc, texts, count, rest)?;
@@ -72,7 +72,7 @@ pub(crate) fn parts_of(
 }
 
 fn states_at(alloc: Global, count: u32, bytes: &[u8]) -> Result<(Vec<Tap>, &[u8]), Stop>
-    ensures { Gives (λ x. (x.0.items, x.1.now)) result (items_at (λ _. state_at) [] count bytes.now) }
+    ensures { ReadingGives (λ x. (x.0.items, x.1.now)) result (items_at (λ _. state_at) [] count bytes.now) }
 {
     let mut items = Vec::new(alloc);
     let mut rest = bytes;
@@ -91,7 +91,7 @@ pub(crate) fn states_of(
     end: usize,
     bytes: &[u8],
 ) -> Result<(ItemList<Tap>, &[u8]), Stop>
-    ensures { Gives (λ x. (x.0, x.1.now)) result (listed_in (λ _. state_at) 1 end bytes.now) }
+    ensures { ReadingGives (λ x. (x.0, x.1.now)) result (listed_in (λ _. state_at) 1 end bytes.now) }
 {
     let (count, rest) = number_in(1, end, bytes)?;
     let (items, rest) = states_at(alloc, count, rest)?;

@@ -3,7 +3,7 @@ ghost use Rattle.std.specs.Prelude.{◌≡◌, ◌<◌, ◌≤◌, ◌*◌, ℕ,
 ghost use Rattle.std.specs.List.{flat_map, list_all};
 ghost use Rattle.base.specs.Bits.{low_bits};
 ghost use Rattle.stapl_code.specs.Fields.{bytes_for};
-ghost use Rattle.code_files.specs.Reading.{Gives, field, items_at, listed_in, any_end};
+ghost use Rattle.code_files.specs.Reading.{ReadingGives, field, items_at, listed_in, any_end};
 ghost use Rattle.code_files.specs.ReadFiles.{is_padded, literal_at};
 
 use crate::fault::Stop;
@@ -31,7 +31,7 @@ fn is_padded(len: u32, packed: &[u8]) -> bool
 
 // The bytes of a literal of so many bits.
 fn packed_of(len: u32, bytes: &[u8]) -> Result<(&[u8], &[u8]), Stop>
-    ensures gives { Gives (λ x. (x.0.now, x.1.now)) result (field (bytes_for len) (is_padded len) bytes.now) }
+    ensures gives { ReadingGives (λ x. (x.0.now, x.1.now)) result (field (bytes_for len) (is_padded len) bytes.now) }
     ensures length { IfOk result (λ x. length x.0.now ≡ bytes_for len) }
 {
     let size = len.div_ceil(8) as usize;
@@ -82,7 +82,7 @@ fn bits_of(alloc: Global, len: u32, packed: &[u8]) -> Result<Bits, AllocError>
 }
 
 fn literal_of(alloc: Global, bytes: &[u8]) -> Result<(Bits, &[u8]), Stop>
-    ensures { Gives (λ x. (x.0, x.1.now)) result (literal_at bytes.now) }
+    ensures { ReadingGives (λ x. (x.0, x.1.now)) result (literal_at bytes.now) }
 {
     let (len, rest) = number_in(1, 16_777_217, bytes)?;
     let (packed, after) = packed_of(len, rest)?;
@@ -91,7 +91,7 @@ fn literal_of(alloc: Global, bytes: &[u8]) -> Result<(Bits, &[u8]), Stop>
 }
 
 fn literals_at(alloc: Global, count: u32, bytes: &[u8]) -> Result<(Vec<Bits>, &[u8]), Stop>
-    ensures { Gives (λ x. (x.0.items, x.1.now)) result (items_at (λ _. literal_at) [] count bytes.now) }
+    ensures { ReadingGives (λ x. (x.0.items, x.1.now)) result (items_at (λ _. literal_at) [] count bytes.now) }
 {
     let mut items = Vec::new(alloc);
     let mut rest = bytes;
@@ -106,7 +106,7 @@ fn literals_at(alloc: Global, count: u32, bytes: &[u8]) -> Result<(Vec<Bits>, &[
 /// The literals of a code.
 #[tactic(auto, unfolding(crate::specs::Reading::listed_in))]
 pub(crate) fn literals_of(alloc: Global, bytes: &[u8]) -> Result<(ItemList<Bits>, &[u8]), Stop>
-    ensures { Gives (λ x. (x.0, x.1.now)) result (listed_in (λ _. literal_at) 0 any_end bytes.now) }
+    ensures { ReadingGives (λ x. (x.0, x.1.now)) result (listed_in (λ _. literal_at) 0 any_end bytes.now) }
 {
     let (count, rest) = number_in(0, 1 << 32, bytes)?;
     let (items, rest) = literals_at(alloc, count, rest)?;

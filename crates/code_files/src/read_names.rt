@@ -2,7 +2,7 @@
 ghost use Rattle.std.specs.Prelude.{◌≡◌, [], true, false, IfOk, IfSome, IfNone};
 ghost use Rattle.std.specs.List.{list_any};
 ghost use Rattle.std.specs.Str.{bytes_eq};
-ghost use Rattle.code_files.specs.Reading.{Gives, items_at, listed_in, any_end};
+ghost use Rattle.code_files.specs.Reading.{ReadingGives, items_at, listed_in, any_end};
 ghost use Rattle.code_files.specs.ReadFiles.{is_spelled, name_at, procedure_among, procedure_at, action_among, action_at};
 
 use crate::fault::Stop;
@@ -34,7 +34,7 @@ fn spelled_name(bytes: &[u8]) -> Option<Name>
 
 // A name that is none of these.
 fn name_of<'a>(names: &IndexSet<Name>, bytes: &'a [u8]) -> Result<(Name, &'a [u8]), Stop>
-    ensures gives { Gives (λ x. (x.0, x.1.now)) result (name_at names.now.keys bytes.now) }
+    ensures gives { ReadingGives (λ x. (x.0, x.1.now)) result (name_at names.now.keys bytes.now) }
     ensures new { IfOk result (λ x. list_any (bytes_eq x.0) names.now.keys ≡ false) }
 {
     let (len, rest) = byte_in(1, 33, bytes)?;
@@ -60,7 +60,7 @@ fn procedure_of<'a>(
     least: usize,
     bytes: &'a [u8],
 ) -> Result<(ProcDef, &'a [u8]), Stop>
-    ensures gives { Gives (λ x. (x.0, x.1.now)) result (procedure_among names.now.keys least bytes.now) }
+    ensures gives { ReadingGives (λ x. (x.0, x.1.now)) result (procedure_among names.now.keys least bytes.now) }
     ensures new { IfOk result (λ x. list_any (bytes_eq x.0.name) names.now.keys ≡ false) }
 {
     match name_of(names, bytes) {
@@ -79,7 +79,7 @@ fn action_of<'a>(
     names: &IndexSet<Name>,
     bytes: &'a [u8],
 ) -> Result<(ActionDef, &'a [u8]), Stop>
-    ensures gives { Gives (λ x. (x.0, x.1.now)) result (action_among procedures names.now.keys bytes.now) }
+    ensures gives { ReadingGives (λ x. (x.0, x.1.now)) result (action_among procedures names.now.keys bytes.now) }
     ensures new { IfOk result (λ x. list_any (bytes_eq x.0.name) names.now.keys ≡ false) }
 {
     match name_of(names, bytes) {
@@ -99,7 +99,7 @@ fn named_procedures_at<'a>(
     bytes: &'a [u8],
 ) -> Result<(Vec<ProcDef>, &'a [u8]), Stop>
     requires { names.old.keys ≡ [] }
-    ensures { Gives (λ x. (x.0.items, x.1.now)) result (items_at procedure_at [] count bytes.now) }
+    ensures { ReadingGives (λ x. (x.0.items, x.1.now)) result (items_at procedure_at [] count bytes.now) }
 {
     let mut items = Vec::new(alloc);
     let mut least: usize = 0;
@@ -119,7 +119,7 @@ fn named_procedures_at<'a>(
 }
 
 fn procedures_at(alloc: Global, count: u32, bytes: &[u8]) -> Result<(Vec<ProcDef>, &[u8]), Stop>
-    ensures { Gives (λ x. (x.0.items, x.1.now)) result (items_at procedure_at [] count bytes.now) }
+    ensures { ReadingGives (λ x. (x.0.items, x.1.now)) result (items_at procedure_at [] count bytes.now) }
 {
     let mut names = IndexSet::new(alloc);
     named_procedures_at(alloc, count, &mut names, bytes)
@@ -128,7 +128,7 @@ fn procedures_at(alloc: Global, count: u32, bytes: &[u8]) -> Result<(Vec<ProcDef
 /// The procedures of a code.
 #[tactic(auto, unfolding(crate::specs::Reading::listed_in))]
 pub(crate) fn procedures_of(alloc: Global, bytes: &[u8]) -> Result<(ItemList<ProcDef>, &[u8]), Stop>
-    ensures { Gives (λ x. (x.0, x.1.now)) result (listed_in procedure_at 1 any_end bytes.now) }
+    ensures { ReadingGives (λ x. (x.0, x.1.now)) result (listed_in procedure_at 1 any_end bytes.now) }
 {
     let (count, rest) = number_in(1, 1 << 32, bytes)?;
     let (items, rest) = procedures_at(alloc, count, rest)?;
@@ -144,7 +144,7 @@ fn named_actions_at<'a>(
     bytes: &'a [u8],
 ) -> Result<(Vec<ActionDef>, &'a [u8]), Stop>
     requires { names.old.keys ≡ [] }
-    ensures { Gives (λ x. (x.0.items, x.1.now)) result (items_at (action_at procedures) [] count bytes.now) }
+    ensures { ReadingGives (λ x. (x.0.items, x.1.now)) result (items_at (action_at procedures) [] count bytes.now) }
 {
     let mut items = Vec::new(alloc);
     let mut rest = bytes;
@@ -164,7 +164,7 @@ fn actions_at(
     count: u32,
     bytes: &[u8],
 ) -> Result<(Vec<ActionDef>, &[u8]), Stop>
-    ensures { Gives (λ x. (x.0.items, x.1.now)) result (items_at (action_at procedures) [] count bytes.now) }
+    ensures { ReadingGives (λ x. (x.0.items, x.1.now)) result (items_at (action_at procedures) [] count bytes.now) }
 {
     let mut names = IndexSet::new(alloc);
     named_actions_at(alloc, procedures, count, &mut names, bytes)
@@ -177,7 +177,7 @@ pub(crate) fn actions_of(
     procedures: usize,
     bytes: &[u8],
 ) -> Result<(ItemList<ActionDef>, &[u8]), Stop>
-    ensures { Gives (λ x. (x.0, x.1.now)) result (listed_in (action_at procedures) 1 any_end bytes.now) }
+    ensures { ReadingGives (λ x. (x.0, x.1.now)) result (listed_in (action_at procedures) 1 any_end bytes.now) }
 {
     let (count, rest) = number_in(1, 1 << 32, bytes)?;
     let (items, rest) = actions_at(alloc, procedures, count, rest)?;

@@ -1,6 +1,6 @@
 //! The parts of instructions, read from the front of the bytes.
 ghost use Rattle.std.specs.Prelude.{◌≡◌};
-ghost use Rattle.code_files.specs.Reading.{Gives, any_end};
+ghost use Rattle.code_files.specs.Reading.{ReadingGives, any_end};
 ghost use Rattle.code_files.specs.ReadInstrs.{register_at, padding_at, kind_at, wait_at, flag_at, state_at, integer_at, part_at, source_at, dest_at, cell_at, export_part_at, given_at, compare_at, scan_parts_at, scan_at};
 
 use crate::fault::Stop;
@@ -12,7 +12,7 @@ use tap_states::Tap;
 
 #[tactic(auto, unfolding(crate::specs::ReadInstrs::tagged))]
 pub(crate) fn register_of(bytes: &[u8]) -> Result<(Register, &[u8]), Stop>
-    ensures { Gives (λ x. (x.0, x.1.now)) result (register_at bytes.now) }
+    ensures { ReadingGives (λ x. (x.0, x.1.now)) result (register_at bytes.now) }
 {
     let (tag, rest) = byte_in(0, 2, bytes)?;
     match tag {
@@ -24,7 +24,7 @@ pub(crate) fn register_of(bytes: &[u8]) -> Result<(Register, &[u8]), Stop>
 
 #[tactic(auto, unfolding(crate::specs::ReadInstrs::tagged))]
 pub(crate) fn padding_of(bytes: &[u8]) -> Result<(Padding, &[u8]), Stop>
-    ensures { Gives (λ x. (x.0, x.1.now)) result (padding_at bytes.now) }
+    ensures { ReadingGives (λ x. (x.0, x.1.now)) result (padding_at bytes.now) }
 {
     let (tag, rest) = byte_in(0, 4, bytes)?;
     match tag {
@@ -38,7 +38,7 @@ pub(crate) fn padding_of(bytes: &[u8]) -> Result<(Padding, &[u8]), Stop>
 
 #[tactic(auto, unfolding(crate::specs::ReadInstrs::tagged))]
 pub(crate) fn kind_of(bytes: &[u8]) -> Result<(ValueKind, &[u8]), Stop>
-    ensures { Gives (λ x. (x.0, x.1.now)) result (kind_at bytes.now) }
+    ensures { ReadingGives (λ x. (x.0, x.1.now)) result (kind_at bytes.now) }
 {
     let (tag, rest) = byte_in(0, 2, bytes)?;
     match tag {
@@ -50,7 +50,7 @@ pub(crate) fn kind_of(bytes: &[u8]) -> Result<(ValueKind, &[u8]), Stop>
 
 #[tactic(auto, unfolding(crate::specs::ReadInstrs::tagged))]
 pub(crate) fn wait_of(bytes: &[u8]) -> Result<(WaitKind, &[u8]), Stop>
-    ensures { Gives (λ x. (x.0, x.1.now)) result (wait_at bytes.now) }
+    ensures { ReadingGives (λ x. (x.0, x.1.now)) result (wait_at bytes.now) }
 {
     let (tag, rest) = byte_in(1, 4, bytes)?;
     match tag {
@@ -63,7 +63,7 @@ pub(crate) fn wait_of(bytes: &[u8]) -> Result<(WaitKind, &[u8]), Stop>
 
 #[tactic(auto, unfolding(crate::specs::ReadInstrs::tagged))]
 pub(crate) fn flag_of(bytes: &[u8]) -> Result<(bool, &[u8]), Stop>
-    ensures { Gives (λ x. (x.0, x.1.now)) result (flag_at bytes.now) }
+    ensures { ReadingGives (λ x. (x.0, x.1.now)) result (flag_at bytes.now) }
 {
     let (tag, rest) = byte_in(0, 2, bytes)?;
     match tag {
@@ -75,7 +75,7 @@ pub(crate) fn flag_of(bytes: &[u8]) -> Result<(bool, &[u8]), Stop>
 
 #[tactic(auto, unfolding(crate::specs::ReadInstrs::tagged))]
 pub(crate) fn state_of(bytes: &[u8]) -> Result<(Tap, &[u8]), Stop>
-    ensures { Gives (λ x. (x.0, x.1.now)) result (state_at bytes.now) }
+    ensures { ReadingGives (λ x. (x.0, x.1.now)) result (state_at bytes.now) }
 {
     let (tag, rest) = byte_in(0, 16, bytes)?;
     match tag {
@@ -101,7 +101,7 @@ pub(crate) fn state_of(bytes: &[u8]) -> Result<(Tap, &[u8]), Stop>
 
 #[tactic(auto, unfolding(crate::specs::ReadInstrs::tagged))]
 pub(crate) fn part_of(texts: usize, bytes: &[u8]) -> Result<(PrintPart, &[u8]), Stop>
-    ensures { Gives (λ x. (x.0, x.1.now)) result (part_at texts bytes.now) }
+    ensures { ReadingGives (λ x. (x.0, x.1.now)) result (part_at texts bytes.now) }
 {
     let (tag, rest) = byte_in(0, 4, bytes)?;
     match tag {
@@ -122,7 +122,7 @@ pub(crate) fn source_of(
     literals: usize,
     bytes: &[u8],
 ) -> Result<(Source, &[u8]), Stop>
-    ensures { Gives (λ x. (x.0, x.1.now)) result (source_at variables literals bytes.now) }
+    ensures { ReadingGives (λ x. (x.0, x.1.now)) result (source_at variables literals bytes.now) }
 {
     let (tag, rest) = byte_in(0, 4, bytes)?;
     match tag {
@@ -145,7 +145,7 @@ pub(crate) fn source_of(
 
 #[tactic(auto, unfolding(crate::specs::ReadInstrs::tagged))]
 pub(crate) fn dest_of(variables: usize, bytes: &[u8]) -> Result<(Dest, &[u8]), Stop>
-    ensures { Gives (λ x. (x.0, x.1.now)) result (dest_at variables bytes.now) }
+    ensures { ReadingGives (λ x. (x.0, x.1.now)) result (dest_at variables bytes.now) }
 {
     let (tag, rest) = byte_in(1, 3, bytes)?;
     let (n, rest) = number_in(0, variables, rest)?;
@@ -158,7 +158,7 @@ pub(crate) fn dest_of(variables: usize, bytes: &[u8]) -> Result<(Dest, &[u8]), S
 
 #[tactic(auto, unfolding(crate::specs::ReadInstrs::tagged))]
 pub(crate) fn cell_of(variables: usize, bytes: &[u8]) -> Result<(Cell, &[u8]), Stop>
-    ensures { Gives (λ x. (x.0, x.1.now)) result (cell_at variables bytes.now) }
+    ensures { ReadingGives (λ x. (x.0, x.1.now)) result (cell_at variables bytes.now) }
 {
     let (tag, rest) = byte_in(0, 2, bytes)?;
     let (n, rest) = number_in(0, variables, rest)?;
@@ -175,7 +175,7 @@ pub(crate) fn export_part_of(
     literals: usize,
     bytes: &[u8],
 ) -> Result<(ExportPart, &[u8]), Stop>
-    ensures { Gives (λ x. (x.0, x.1.now)) result (export_part_at variables literals bytes.now) }
+    ensures { ReadingGives (λ x. (x.0, x.1.now)) result (export_part_at variables literals bytes.now) }
 {
     let (tag, rest) = byte_in(0, 3, bytes)?;
     match tag {
@@ -195,7 +195,7 @@ pub(crate) fn given_source_of(
     literals: usize,
     bytes: &[u8],
 ) -> Result<(Option<Source>, &[u8]), Stop>
-    ensures { Gives (λ x. (x.0, x.1.now)) result (given_at (source_at variables literals) bytes.now) }
+    ensures { ReadingGives (λ x. (x.0, x.1.now)) result (given_at (source_at variables literals) bytes.now) }
 {
     let (tag, rest) = byte_in(0, 2, bytes)?;
     match tag {
@@ -213,7 +213,7 @@ pub(crate) fn compare_of(
     literals: usize,
     bytes: &[u8],
 ) -> Result<(Compare, &[u8]), Stop>
-    ensures { Gives (λ x. (x.0, x.1.now)) result (compare_at variables literals bytes.now) }
+    ensures { ReadingGives (λ x. (x.0, x.1.now)) result (compare_at variables literals bytes.now) }
 {
     let (expected, rest) = source_of(variables, literals, bytes)?;
     let (mask, rest) = source_of(variables, literals, rest)?;
@@ -253,7 +253,7 @@ fn scan_parts_of(
     source: Source,
     bytes: &[u8],
 ) -> Result<(Scan, &[u8]), Stop>
-    ensures { Gives (λ x. (x.0, x.1.now)) result (scan_parts_at variables literals register source bytes.now) }
+    ensures { ReadingGives (λ x. (x.0, x.1.now)) result (scan_parts_at variables literals register source bytes.now) }
 {
     let (tag, rest) = byte_in(0, 4, bytes)?;
     match tag {
@@ -283,7 +283,7 @@ pub(crate) fn scan_of(
     literals: usize,
     bytes: &[u8],
 ) -> Result<(Scan, &[u8]), Stop>
-    ensures { Gives (λ x. (x.0, x.1.now)) result (scan_at variables literals bytes.now) }
+    ensures { ReadingGives (λ x. (x.0, x.1.now)) result (scan_at variables literals bytes.now) }
 {
     let (register, rest) = register_of(bytes)?;
     let (source, rest) = source_of(variables, literals, rest)?;
@@ -291,7 +291,7 @@ pub(crate) fn scan_of(
 }
 
 pub(crate) fn integer_of(bytes: &[u8]) -> Result<(i32, &[u8]), Stop>
-    ensures { Gives (λ x. (x.0, x.1.now)) result (integer_at bytes.now) }
+    ensures { ReadingGives (λ x. (x.0, x.1.now)) result (integer_at bytes.now) }
 {
     let (n, rest) = number_in(0, 1 << 32, bytes)?;
     Ok((n.cast_signed(), rest))

@@ -2,8 +2,8 @@
 ghost use Rattle.std.specs.Prelude.{◌≡◌, ◌<◌, ◌≤◌, ◌+◌, [], List, sum_by, IfOk};
 ghost use Rattle.stapl_code.specs.declared.raw.VarDef.{VarDef};
 ghost use Rattle.stapl_code.specs.Ranges.{elements_of};
-ghost use Rattle.code_files.specs.Reading.{Gives, items_at, listed_in, any_end};
-ghost use Rattle.code_files.specs.ReadFiles.{size_end, variable_at, HasRoom};
+ghost use Rattle.code_files.specs.Reading.{ReadingGives, items_at, listed_in, any_end};
+ghost use Rattle.code_files.specs.ReadFiles.{size_end, variable_at, HasRoomFor};
 
 use crate::fault::Stop;
 use crate::reading::{byte_in, number_in};
@@ -30,7 +30,7 @@ fn size_end(ints: usize, bits: usize, kind: u8) -> usize
     requires kind { kind < 4 }
     ensures value { (earlier : List VarDef) → ints ≡ sum_by (elements_of 0 2) earlier →
         bits ≡ sum_by (elements_of 1 3) earlier → result ≡ size_end earlier kind }
-    ensures room { HasRoom ints bits kind result }
+    ensures room { HasRoomFor ints bits kind result }
 {
     match kind {
         0 => 2usize.min(1_048_577 - ints),
@@ -46,7 +46,7 @@ fn variable_of(ints: usize, bits: usize, bytes: &[u8]) -> Result<(VarDef, &[u8])
     requires ints { ints ≤ 1048576 }
     requires bits { bits ≤ 16777216 }
     ensures gives { (earlier : List VarDef) → ints ≡ sum_by (elements_of 0 2) earlier →
-        bits ≡ sum_by (elements_of 1 3) earlier → Gives (λ x. (x.0, x.1.now)) result (variable_at earlier bytes.now) }
+        bits ≡ sum_by (elements_of 1 3) earlier → ReadingGives (λ x. (x.0, x.1.now)) result (variable_at earlier bytes.now) }
     ensures ints_kept { IfOk result (λ x. ints + elements_of 0 2 x.0 ≤ 1048576) }
     ensures bits_kept { IfOk result (λ x. bits + elements_of 1 3 x.0 ≤ 16777216) }
 {
@@ -56,7 +56,7 @@ fn variable_of(ints: usize, bits: usize, bytes: &[u8]) -> Result<(VarDef, &[u8])
 }
 
 fn variables_at(alloc: Global, count: u32, bytes: &[u8]) -> Result<(Vec<VarDef>, &[u8]), Stop>
-    ensures { Gives (λ x. (x.0.items, x.1.now)) result (items_at variable_at [] count bytes.now) }
+    ensures { ReadingGives (λ x. (x.0.items, x.1.now)) result (items_at variable_at [] count bytes.now) }
 {
     let mut items = Vec::new(alloc);
     let mut ints: usize = 0;
@@ -75,7 +75,7 @@ fn variables_at(alloc: Global, count: u32, bytes: &[u8]) -> Result<(Vec<VarDef>,
 /// The variables of a code.
 #[tactic(auto, unfolding(crate::specs::Reading::listed_in))]
 pub(crate) fn variables_of(alloc: Global, bytes: &[u8]) -> Result<(ItemList<VarDef>, &[u8]), Stop>
-    ensures { Gives (λ x. (x.0, x.1.now)) result (listed_in variable_at 0 any_end bytes.now) }
+    ensures { ReadingGives (λ x. (x.0, x.1.now)) result (listed_in variable_at 0 any_end bytes.now) }
 {
     let (count, rest) = number_in(0, 1 << 32, bytes)?;
     let (items, rest) = variables_at(alloc, count, rest)?;

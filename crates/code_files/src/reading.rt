@@ -1,6 +1,6 @@
 //! Fields of a code file, read from the front of the bytes.
 ghost use Rattle.std.specs.Prelude.{◌≡◌, ◌<◌, ◌≤◌, length, IfOk, IfSome, IfNone, true, false};
-ghost use Rattle.code_files.specs.Reading.{Gives, field, byte_in, number_in};
+ghost use Rattle.code_files.specs.Reading.{ReadingGives, field, byte_in, number_in};
 ghost use Rattle.code_files.specs.ReadFiles.{is_head, profile_of, head_at};
 
 use crate::fault::{Fault, Stop};
@@ -30,7 +30,7 @@ pub(crate) fn wrong(bytes: &[u8]) -> Stop
 
 #[tactic(auto, unfolding(crate::specs::Reading::byte_in))]
 pub(crate) fn byte_in(low: u8, end: u8, bytes: &[u8]) -> Result<(u8, &[u8]), Stop>
-    ensures gives { Gives (λ x. (x.0, x.1.now)) result (byte_in low end bytes.now) }
+    ensures gives { ReadingGives (λ x. (x.0, x.1.now)) result (byte_in low end bytes.now) }
     ensures inside { IfOk result (λ x. (low ≤ x.0) × (x.0 < end)) }
 {
     if bytes.len() < 1 {
@@ -47,7 +47,7 @@ pub(crate) fn byte_in(low: u8, end: u8, bytes: &[u8]) -> Result<(u8, &[u8]), Sto
 
 #[tactic(auto, unfolding(crate::specs::Reading::number_in))]
 pub(crate) fn number_in(low: usize, end: usize, bytes: &[u8]) -> Result<(u32, &[u8]), Stop>
-    ensures gives { Gives (λ x. (x.0, x.1.now)) result (number_in low end bytes.now) }
+    ensures gives { ReadingGives (λ x. (x.0, x.1.now)) result (number_in low end bytes.now) }
     ensures inside { IfOk result (λ x. (low ≤ x.0) × (x.0 < end)) }
 {
     if bytes.len() < 4 {
@@ -79,7 +79,7 @@ fn profile_of(front: &[u8]) -> Option<Profile>
 
 /// The profile that the head of a file says, and the bytes after it.
 pub(crate) fn head_of(bytes: &[u8]) -> Result<(Profile, &[u8]), Stop>
-    ensures { Gives (λ x. (x.0, x.1.now)) result (head_at bytes.now) }
+    ensures { ReadingGives (λ x. (x.0, x.1.now)) result (head_at bytes.now) }
 {
     if bytes.len() < 8 {
         return Err(cut());

@@ -38,7 +38,7 @@ use Rattle.written_cable.specs.declared.trouble.Trouble.{Trouble}
 use Rattle.written_cable.specs.declared.trouble.Trouble.TheVariants.{CableFault, WriteFault}
 use Rattle.written_cable.specs.Ports.{IfFault}
 use Rattle.play_words.specs.declared.status.Status.{Status}
-use Rattle.play_words.specs.Statuses.{IsPlayed, ComesBeforeFitting}
+use Rattle.play_words.specs.Statuses.{IsOfPlay, ComesBeforeFitting}
 use Rattle.command_words.specs.declared.place_run.PlaceRun.{PlaceRun}
 use Rattle.play_words.specs.declared.requests.PlayRequest.{PlayRequest}
 use Rattle.code_plays.specs.Plays.{done_with, has_place, reported_far, asked_text, Plays, played}
@@ -145,7 +145,7 @@ rack_failed (Ok status) is = absurd is
 rack_failed (Err e) is = record { kinds = refl; early = tt; leaves = λ e. tt; other = λ e. refl }
 
 pub rack_refused : {D Kind P : Type 0} {kind_of : D → Kind} {fitted : D → Option SoundCard} {final : List (Option SoundCard) → Type 0} {items : List D}
-    (status : Status) → (IsPlayed status → ⊥) → KeepsRack kind_of fitted P final items items (Ok status)
+    (status : Status) → (IsOfPlay status → ⊥) → KeepsRack kind_of fitted P final items items (Ok status)
 rack_refused status never = record { kinds = refl; early = λ p. refl; leaves = λ e p. absurd (never p); other = λ e. refl }
 
 pub rack_unread : {D Kind P : Type 0} {kind_of : D → Kind} {fitted : D → Option SoundCard} {final : List (Option SoundCard) → Type 0} {items : List D}

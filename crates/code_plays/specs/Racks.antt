@@ -13,7 +13,7 @@ use Rattle.chain_sim.specs.Rack.{places_of}
 use Rattle.tool_frame.specs.declared.no_answer.NoAnswer.{NoAnswer}
 use Rattle.play_words.specs.declared.requests.PlayRequest.{PlayRequest}
 use Rattle.play_words.specs.declared.status.Status.{Status}
-use Rattle.play_words.specs.Statuses.{IsPlayed, ComesBeforeFitting}
+use Rattle.play_words.specs.Statuses.{IsOfPlay, ComesBeforeFitting}
 use Rattle.code_plays.specs.Plays.{code_play_on}
 
 -- what stands at the far end of a cable to these places of a rack
@@ -39,5 +39,5 @@ pub record KeepsRack {D Kind : Type 0} (kind_of : D → Kind) (fitted : D → Op
     (before after : List D) (result : Result Status NoAnswer) : Type 0 where
   pub kinds : map kind_of after ≡ map kind_of before
   pub early : IfOk result (λ status. ComesBeforeFitting status → after ≡ before)
-  pub leaves : playing → IfOk result (λ status. IsPlayed status → final (map fitted after))
+  pub leaves : playing → IfOk result (λ status. IsOfPlay status → final (map fitted after))
   pub other : (playing → ⊥) → after ≡ before

@@ -14,7 +14,7 @@ use Rattle.bit_list.specs.Ranges.{taken, spliced}
 use Rattle.dev_card.specs.declared.desc.FlashDesc.{FlashDesc}
 use Rattle.dev_card.specs.Card.{and_bits, flash_erase}
 use Rattle.dev_kinds.specs.Logic.{Logic}
-use Rattle.dev_kinds.specs.Memories.{Store, IsStore, IsUpdated, fresh_store}
+use Rattle.dev_kinds.specs.Memories.{MemoryStore, IsStore, IsUpdated, fresh_store}
 use Rattle.bit_list.proofs.Splices.{spliced_whole}
 use Rattle.dev_kinds.proofs.CommonBits.{length-and_bits}
 
@@ -85,16 +85,16 @@ store_is_fresh f g address words e a w =
 erases_now : (a b : Bool) → a ≡ true → b ≡ false → (a && not b) ≡ true
 erases_now a b e f = ap (λ x. x && not b) e ∙ ap (λ x. true && not x) f
 
-pub erased : (k : Logic) (m old : Store) (words : List (List Bool)) (low busy : Bool) → m ≡ old → slice_get k.dr_list 0
+pub erased : (k : Logic) (m old : MemoryStore) (words : List (List Bool)) (low busy : Bool) → m ≡ old → slice_get k.dr_list 0
     ≡ Some low → low ≡ true → busy ≡ not (old.busy == 0) → busy ≡ false →
     words ≡ replicate m.shape.words (replicate m.shape.width true) →
     IsUpdated k old (record { shape = m.shape; address = m.address; words = words; busy = m.shape.busy })
     (flash_erase old.shape)
 erased k m old words low busy is l t b f w =
-    let new : Store = record { shape = m.shape; address = m.address; words = words; busy = m.shape.busy } in
+    let new : MemoryStore = record { shape = m.shape; address = m.address; words = words; busy = m.shape.busy } in
     let now : (slice_index_or k.dr_list 0 false && not (not (m.busy == 0))) ≡ true =
     erases_now (slice_index_or k.dr_list 0 false) (not (m.busy == 0)) (get_or_from_slice_get k.dr_list 0 low false l
-    ∙ t) (ap (λ (o : Store). not (o.busy == 0)) is ∙ sym b ∙ f) in
+    ∙ t) (ap (λ (o : MemoryStore). not (o.busy == 0)) is ∙ sym b ∙ f) in
     subst (λ o. IsUpdated k o new (flash_erase o.shape)) is (record {
       shape = refl;
       cells = ap (λ x. m.address ∷ x) w ∙ sym (ap (λ x. cond x (m.address ∷ replicate m.shape.words (replicate m.shape.width true)) (m.address ∷ m.words)) now);

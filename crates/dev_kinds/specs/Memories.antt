@@ -7,17 +7,17 @@ use Rattle.dev_card.specs.Card.{Card, Selected, bypass, identity_code, flash_add
 use Rattle.dev_kinds.specs.declared.memory.FlashRegister.{FlashRegister}
 use Rattle.dev_kinds.specs.declared.memory.FlashRegister.TheVariants.{Bypass, Identity, Address, Erase, Program, Read}
 use Rattle.dev_kinds.specs.Logic.{Logic, card_of}
-use Rattle.dev_kinds.specs.DataRegisters.{Contents}
+use Rattle.dev_kinds.specs.DataRegisters.{RegisterContents}
 
 -- the memory: its description, its address, its words and its busy count
-pub record Store : Type 0 where
+pub record MemoryStore : Type 0 where
   pub shape : FlashDesc
   pub address : List Bool
   pub words : List (List Bool)
   pub busy : ℕ
 
 -- the memory after power-up
-abbrev pub fresh_store : FlashDesc → Store
+abbrev pub fresh_store : FlashDesc → MemoryStore
 fresh_store f = record {
   shape = f;
   address = replicate address_bits false;
@@ -26,11 +26,11 @@ fresh_store f = record {
 }
 
 -- the card of a Flash with this test logic and this memory
-abbrev pub flash_card : Logic → Store → Card
+abbrev pub flash_card : Logic → MemoryStore → Card
 flash_card k m = card_of k (m.address ∷ m.words) m.busy
 
 -- the address and the words as cells
-abbrev pub store_contents : Store → Contents
+abbrev pub store_contents : MemoryStore → RegisterContents
 store_contents m = record { flash = Some m.shape; cells = m.address ∷ m.words; busy = m.busy }
 
 -- what a memory keeps: each of its lists has the length that its description gives, and so has its buffer for a word
@@ -43,7 +43,7 @@ pub record IsStore (shape : FlashDesc) (address : List Bool) (words : List (List
   pub buffer_length : length buffer ≡ shape.width
 
 -- the memory after an update of this register with the data list
-pub record IsUpdated (k : Logic) (old new : Store) (s : Selected) : Type 0 where
+pub record IsUpdated (k : Logic) (old new : MemoryStore) (s : Selected) : Type 0 where
   pub shape : new.shape ≡ old.shape
   pub cells : new.address ∷ new.words ≡ updated_cells (flash_card k old) s k.dr_list
   pub busy : new.busy ≡ updated_busy (flash_card k old) s k.dr_list

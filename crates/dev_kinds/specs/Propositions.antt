@@ -14,7 +14,7 @@ use Rattle.dev_card.specs.Descriptions.{IsOpcode, IsIdentity, IsGoodRegister, Ar
 use Rattle.dev_card.specs.Card.{Card}
 use Rattle.dev_card.specs.Sound.{IsSound}
 use Rattle.dev_kinds.specs.Logic.{Logic}
-use Rattle.dev_kinds.specs.DataRegisters.{Contents, IsFitted, card_with}
+use Rattle.dev_kinds.specs.DataRegisters.{RegisterContents, IsFitted, card_with}
 
 -- registers and memories are coded as tuples of their fields, so equations of them are propositions
 coded_register : Coded RegDesc
@@ -130,7 +130,7 @@ coded_kind =
     (elim [ Plain ↦ refl | Regs ↦ refl | Flash ↦ refl ])
 
 -- a device is fitted in one way, so a struct may keep the fact that it is
-pub IsFitted-prop : (own : Kind) (longest : ℕ) (k : Logic) (r : Contents) → IsProp (IsFitted own longest k r)
+pub IsFitted-prop : (own : Kind) (longest : ℕ) (k : Logic) (r : RegisterContents) → IsProp (IsFitted own longest k r)
 IsFitted-prop own longest k r x y = λ i. record {
   kind = Coded-set coded_kind _ _ x.kind y.kind i;
   flash = Coded-set (coded_option coded_memory) _ _ x.flash y.flash i;

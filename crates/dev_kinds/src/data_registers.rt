@@ -6,7 +6,7 @@ ghost use Rattle.dev_card.specs.Descriptions.{IsGood};
 ghost use Rattle.dev_card.specs.Card.{captured, selected};
 ghost use Rattle.dev_card.specs.Sound.{is_data_state};
 ghost use Rattle.dev_kinds.specs.Logic.{Logic};
-ghost use Rattle.dev_kinds.specs.DataRegisters.{Contents, IsFitted, card_with};
+ghost use Rattle.dev_kinds.specs.DataRegisters.{RegisterContents, IsFitted, card_with};
 ghost use Rattle.dev_kinds.specs.DataRegisters.{fresh_contents, updated_contents, rested_contents};
 
 use crate::test_logic::TestLogic;
@@ -21,7 +21,7 @@ pub trait DataRegisters: Drop {
 
     ghost longest: { ℕ };
 
-    ghost contents: { Self → Contents };
+    ghost contents: { Self → RegisterContents };
 
     // The kind of a device that has these registers.
     fn kind() -> Kind

@@ -40,9 +40,9 @@ pub struct Memory {
 }
 
 impl Model for Memory {
-    ghost use Rattle.dev_kinds.specs.Memories.{Store, IsStore};
+    ghost use Rattle.dev_kinds.specs.Memories.{MemoryStore, IsStore};
 
-    ghost Value = { Store };
+    ghost Value = { MemoryStore };
 
     ghost view = { λ m. record { shape = m.shape; address = m.address; words = m.words.items; busy = m.busy } };
 

@@ -79,7 +79,7 @@ pub record IsNewWire {D : Type 0} (w : MemWireOf D) (devices : List D) (places f
   pub faults : w.faults ≡ 0
 
 -- a refused call raises the count and does nothing else
-pub record IsRefused {D : Type 0} (old new : MemWireOf D) : Type 0 where
+pub record IsRefusedCall {D : Type 0} (old new : MemWireOf D) : Type 0 where
   pub devices : new.rack.now.items ≡ old.rack.now.items
   pub link : new.link ≡ old.link
   pub waiting : new.waiting ≡ old.waiting
@@ -91,7 +91,7 @@ pub record SendsExactly {D E : Type 0} (old : MemWireOf D) (bytes : List ℕ) (r
   pub number : new.number ≡ min (old.number + 1) (2 ^ 32 - 1)
   pub list : new.failing.items ≡ old.failing.items
   pub fails : IsErr result ↔ (Contains old.failing.items new.number ⊎ (most_waiting < length old.waiting + length bytes))
-  pub fault : OnErr result (IsRefused old new)
+  pub fault : OnErr result (IsRefusedCall old new)
   pub takes : IfOk result (λ n. n ≡ length bytes)
   pub unfaulted : OnOk result (new.faults ≡ old.faults)
 
@@ -100,6 +100,6 @@ pub record GivesExactly {D E : Type 0} (old : MemWireOf D) (room : ℕ) (result 
   pub number : new.number ≡ min (old.number + 1) (2 ^ 32 - 1)
   pub list : new.failing.items ≡ old.failing.items
   pub fails : IsErr result ↔ Contains old.failing.items new.number
-  pub fault : OnErr result (IsRefused old new)
+  pub fault : OnErr result (IsRefusedCall old new)
   pub gives : IfOk result (λ n. n ≡ min (length old.waiting) room)
   pub unfaulted : OnOk result (new.faults ≡ old.faults)

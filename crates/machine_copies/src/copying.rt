@@ -10,7 +10,7 @@ ghost use Rattle.stapl_code.specs.Machine.{puts, does, known_source, target_of};
 ghost use Rattle.stapl_code.specs.Safe.{constants_of};
 ghost use Rattle.machine_memory.specs.Found.{IsValue};
 ghost use Rattle.machine_memory.specs.Acts.{IsMade, Told, state_with};
-ghost use Rattle.machine_memory.specs.Arrays.{span_in, HasSpan, IsPart, first_bits, with_bits, with_part, bits_put, part_asked, integer_asked};
+ghost use Rattle.machine_memory.specs.Arrays.{span_in, HasSpan, IsArrayPart, first_bits, with_bits, with_part, bits_put, part_asked, integer_asked};
 
 use bit_list::Bits;
 use machine_memory::effects::Made;
@@ -32,7 +32,7 @@ fn pad_bits(held: &mut Held, span: Span, literal: &Bits)
 }
 
 fn put_literal(variables: &mut Vec<Held>, part: Part, literal: &Bits)
-    requires { IsPart variables.old.items part }
+    requires { IsArrayPart variables.old.items part }
     ensures { variables.new.items ≡ with_part variables.old.items part (padded false part.span.count literal.now) }
 {
     pad_bits(&mut variables[part.array as usize], part.span, literal);
@@ -51,7 +51,7 @@ fn set_low_bits(held: &mut Held, span: Span, value: i32)
 }
 
 fn put_integer(variables: &mut Vec<Held>, part: Part, value: i32)
-    requires is_part { IsPart variables.old.items part }
+    requires is_part { IsArrayPart variables.old.items part }
     requires width { part.span.count ≤ 32 }
     ensures { variables.new.items ≡ with_part variables.old.items part (take part.span.count (bits_of_int value)) }
 {
@@ -90,8 +90,8 @@ fn copy_bits(held: &mut Held, span: Span, other: &Held, from: Span)
 
 // Copies the first bits of a part of another variable. The one that is written is taken out and put back.
 fn put_other(variables: &mut Vec<Held>, part: Part, from: Part)
-    requires is_part { IsPart variables.old.items part }
-    requires source { IsPart variables.old.items from }
+    requires is_part { IsArrayPart variables.old.items part }
+    requires source { IsArrayPart variables.old.items from }
     requires enough { part.span.count ≤ from.span.count }
     requires other { part.array ≢ from.array }
     ensures { variables.new.items ≡ with_part variables.old.items part
@@ -109,8 +109,8 @@ fn put_other(variables: &mut Vec<Held>, part: Part, from: Part)
 }
 
 fn put_part(variables: &mut Vec<Held>, part: Part, from: Part)
-    requires is_part { IsPart variables.old.items part }
-    requires source { IsPart variables.old.items from }
+    requires is_part { IsArrayPart variables.old.items part }
+    requires source { IsArrayPart variables.old.items from }
     requires enough { part.span.count ≤ from.span.count }
     ensures { variables.new.items ≡ with_part variables.old.items part
         (first_bits part.span.count from.span (bits_in (slice_get variables.old.items from.array))) }
@@ -124,8 +124,8 @@ fn put_part(variables: &mut Vec<Held>, part: Part, from: Part)
 
 // As many bits of a part of an array as another part has go there.
 fn copy_part(variables: &mut Vec<Held>, part: Part, from: Part) -> Result<Made, Stop>
-    requires is_part { IsPart variables.old.items part }
-    requires source { IsPart variables.old.items from }
+    requires is_part { IsArrayPart variables.old.items part }
+    requires source { IsArrayPart variables.old.items from }
     ensures { (told : Told) (chosen : List ℕ) (records : List Record) (ir dr : ScanSettings) →
         IsMade result told (state_with chosen records ir dr variables.old.items)
         (state_with chosen records ir dr variables.new.items)
@@ -210,7 +210,7 @@ fn copy_range(
 
 // As many bits of an integer as a part of an array has go there.
 fn fill_integer(variables: &mut Vec<Held>, part: Part, value: Value) -> Result<Made, Stop>
-    requires is_part { IsPart variables.old.items part }
+    requires is_part { IsArrayPart variables.old.items part }
     ensures { (told : Told) (chosen : List ℕ) (records : List Record) (ir dr : ScanSettings) →
         IsMade result told (state_with chosen records ir dr variables.old.items)
         (state_with chosen records ir dr variables.new.items)

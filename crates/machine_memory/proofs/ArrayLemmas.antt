@@ -29,7 +29,7 @@ use Rattle.machine_memory.specs.declared.parts.Part.{Part}
 use Rattle.machine_memory.specs.declared.parts.Span.{Span}
 use Rattle.machine_memory.specs.Found.{IsGot}
 use Rattle.machine_memory.proofs.PrintLemmas.{item_at}
-use Rattle.machine_memory.specs.Arrays.{with_bits, span_in, HasPart, part_held, whole_span, range_span, IsFound, array_of, dest_span, after_dest, with_part, bits_put, first_bits}
+use Rattle.machine_memory.specs.Arrays.{with_bits, span_in, HasPart, part_held, whole_span, range_span, IsFoundPart, array_of, dest_span, after_dest, with_part, bits_put, first_bits}
 use Rattle.machine_memory.specs.Arrays.{part_asked, integer_asked}
 use Rattle.machine_memory.proofs.SpanLemmas.{length_span}
 
@@ -91,7 +91,7 @@ copied_parts profile (dests.Range n) source (first ∷ []) s = never (slice_get 
 
 -- the part is known
 pub copied_at : (profile : Profile) (dest : Dest) (source : values.Source) (vs rest : List Value) (part : Part) (s : State) →
-    IsFound s.store.variables (array_of dest) (dest_span profile dest vs) part → after_dest dest vs ≡ rest →
+    IsFoundPart s.store.variables (array_of dest) (dest_span profile dest vs) part → after_dest dest vs ≡ rest →
     copied (target_of profile dest) source vs s
     ≡ span_written part.array (bits_in (slice_get s.store.variables part.array)) source rest s (span_in part.span)
 copied_at profile dest source vs rest part s found e =
@@ -134,7 +134,7 @@ part_inside (Some array) span h = h.inside
 
 -- what an instruction that copies does
 module _ (profile : Profile) (dest : Dest) (vs : List Value) (part : Part) (chosen : List ℕ) (records : List Record) (ir dr : ScanSettings)
-    (variables : List Held) (found : IsFound variables (array_of dest) (dest_span profile dest vs) part) where
+    (variables : List Held) (found : IsFoundPart variables (array_of dest) (dest_span profile dest vs) part) where
   pub copied_integer : (v : Value) → after_dest dest vs ≡ v ∷ [] →
       copied (target_of profile dest) OfInt vs (state_with chosen records ir dr variables) ≡ bits_put variables part
       (state_with chosen records ir dr variables) (integer_asked part v)
@@ -144,7 +144,7 @@ module _ (profile : Profile) (dest : Dest) (vs : List Value) (part : Part) (chos
   copied_integer (Bit b) e = copied_at profile dest OfInt vs (Bit b ∷ []) part (state_with chosen records ir dr variables) found e
 
   -- the bits of a part of an array
-  module _ (n : ℕ) (spans : ℕ → Got values.Span) (from : Part) (is : IsFound variables n spans from) where
+  module _ (n : ℕ) (spans : ℕ → Got values.Span) (from : Part) (is : IsFoundPart variables n spans from) where
     abbrev bits_there : List Bool
     bits_there = span_bits (span_in from.span) (bits_in (slice_get variables from.array))
 
@@ -159,7 +159,7 @@ module _ (profile : Profile) (dest : Dest) (vs : List Value) (part : Part) (chos
         asked_taken part.span.count from.span (bits_in (slice_get variables from.array))
         (part_inside (slice_get variables from.array) from.span is.is_part.has)
 
-  pub copied_whole : (n : ℕ) (from : Part) → IsFound variables n whole_span from → after_dest dest vs ≡ [] →
+  pub copied_whole : (n : ℕ) (from : Part) → IsFoundPart variables n whole_span from → after_dest dest vs ≡ [] →
       copied (target_of profile dest) (Whole n) vs (state_with chosen records ir dr variables) ≡ bits_put variables part
       (state_with chosen records ir dr variables) (part_asked variables part from)
   copied_whole n from is e =
@@ -169,7 +169,7 @@ module _ (profile : Profile) (dest : Dest) (vs : List Value) (part : Part) (chos
       (asked (Whole n) part.span.count bits))) (whole_bits variables n ∙ known_bits n whole_span from is)
       ∙ ap (bits_put variables part (state_with chosen records ir dr variables)) (asked_there n whole_span from is)
 
-  pub copied_range : (n : ℕ) (first second : Value) (from : Part) → IsFound variables n (range_span profile first second) from →
+  pub copied_range : (n : ℕ) (first second : Value) (from : Part) → IsFoundPart variables n (range_span profile first second) from →
       after_dest dest vs ≡ first ∷ second ∷ [] →
       copied (target_of profile dest) (Range profile n) vs (state_with chosen records ir dr variables) ≡ bits_put variables part
       (state_with chosen records ir dr variables) (part_asked variables part from)

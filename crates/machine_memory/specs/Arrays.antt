@@ -48,18 +48,18 @@ HasPart (Some h) span = HasSpan h span
 HasPart None span = ⊥
 
 -- a variable of these is a BOOLEAN array that has this part
-pub record IsPart (variables : List Held) (part : Part) : Type 0 where
+pub record IsArrayPart (variables : List Held) (part : Part) : Type 0 where
   pub there : part.array < length variables
   pub has : HasPart (slice_get variables part.array) part.span
 
 -- this is the part of the array of a number that the number of its bits tells
-pub record IsFound (variables : List Held) (n : ℕ) (spans : ℕ → Got values.Span) (part : Part) : Type 0 where
+pub record IsFoundPart (variables : List Held) (n : ℕ) (spans : ℕ → Got values.Span) (part : Part) : Type 0 where
   pub array : part.array ≡ n
   pub span : part_held (slice_get variables n) spans ≡ Known (span_in part.span)
-  pub is_part : IsPart variables part
+  pub is_part : IsArrayPart variables part
 
 abbrev pub IsPartOf : Result Part Stop → List Held → ℕ → (ℕ → Got values.Span) → Type 0
-IsPartOf (Ok part) variables n spans = IsFound variables n spans part
+IsPartOf (Ok part) variables n spans = IsFoundPart variables n spans part
 IsPartOf (Err stop) variables n spans = IsStopped stop (part_held (slice_get variables n) spans)
 
 -- the array of a destination, its part that these values tell, and the values after those

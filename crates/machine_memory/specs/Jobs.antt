@@ -22,7 +22,7 @@ use Rattle.machine_memory.specs.declared.memory.Memory.{Memory}
 use Rattle.machine_memory.specs.declared.memory.Shifted.{Shifted}
 use Rattle.machine_memory.specs.declared.effects.ComparedAt.{ComparedAt}
 use Rattle.machine_memory.specs.declared.effects.PartsAt.{PartsAt}
-use Rattle.machine_memory.specs.Arrays.{span_in, IsPart}
+use Rattle.machine_memory.specs.Arrays.{span_in, IsArrayPart}
 use Rattle.machine_memory.specs.Exports.{literal_in, bits_at}
 
 -- ---- the parts of a scan, whose literals are there
@@ -72,7 +72,7 @@ asked_at (bits.Integer z) n list = asked values.OfInt n list
 -- a literal or a part of an array is there
 abbrev pub IsThere : List (List Bool) → List Held → BitsAt → Type 0
 IsThere literals variables (bits.Literal k) = k < length literals
-IsThere literals variables (bits.Part part) = IsPart variables part
+IsThere literals variables (bits.Part part) = IsArrayPart variables part
 IsThere literals variables (bits.Integer z) = length literals ≡ length literals
 
 -- bits of a source of this form lie there
@@ -85,7 +85,7 @@ IsOf _ _ = ⊥
 
 abbrev pub IsPartIf : List Held → Option Part → Type 0
 IsPartIf variables None = length variables ≡ length variables
-IsPartIf variables (Some part) = IsPart variables part
+IsPartIf variables (Some part) = IsArrayPart variables part
 
 abbrev pub place_of : Part → Place
 place_of part = record { array = part.array; span = span_in part.span }

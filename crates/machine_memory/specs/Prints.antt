@@ -20,9 +20,9 @@ IsPut (Ok done) old whole new rest = with_front old whole ≡ with_front new res
 IsPut (Err e) old whole new rest = IsStopped e whole
 
 -- the next value was taken, or there is none
-abbrev pub Follows : List Value → Result Value Stop → List Value → Type 0
-Follows old (Ok v) new = old ≡ v ∷ new
-Follows old (Err e) new = (old ≡ []) × (e ≡ stop.Wrong)
+abbrev pub TakesNext : List Value → Result Value Stop → List Value → Type 0
+TakesNext old (Ok v) new = old ≡ v ∷ new
+TakesNext old (Err e) new = (old ≡ []) × (e ≡ stop.Wrong)
 
 -- the most bytes of a part: an integer has at most eleven
 abbrev pub text_length : Option (List ℕ) → ℕ

@@ -6,7 +6,7 @@ ghost use Rattle.stapl_meaning.specs.States.{State};
 ghost use Rattle.stapl_code.specs.Machine.{kept};
 ghost use Rattle.machine_memory.specs.Found.{IsGot};
 ghost use Rattle.machine_memory.specs.Acts.{IsMade, Told};
-ghost use Rattle.machine_memory.specs.Arrays.{span_in, whole_span, range_span, HasSpan, IsPart, IsPartOf, array_of, dest_span, after_dest};
+ghost use Rattle.machine_memory.specs.Arrays.{span_in, whole_span, range_span, HasSpan, IsArrayPart, IsPartOf, array_of, dest_span, after_dest};
 
 use crate::effects::Made;
 use crate::operate::Stop;
@@ -47,7 +47,7 @@ pub fn held_at(variables: &[Held], n: u32) -> Option<&Held>
 
 /// The variable that has a part.
 pub fn holder(variables: &[Held], part: Part) -> &Held
-    requires { IsPart variables.now part }
+    requires { IsArrayPart variables.now part }
     ensures span { HasSpan result.now part.span }
     ensures bits { bits_in (slice_get variables.now part.array) ≡ bits_of result.now }
 {

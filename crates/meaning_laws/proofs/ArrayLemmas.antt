@@ -17,7 +17,7 @@ use Rattle.stapl_meaning.specs.Values.{Got, Known, Faults, Stuck, then_get, pass
 use Rattle.stapl_meaning.specs.Scans.{source_width}
 use Rattle.meaning_laws.specs.ExprFaults.{bit_count, held_by}
 use Rattle.meaning_laws.specs.PartFaults.{array_part, ArrayIs, literal_is, whole_is, range_is, integer_is, RangeHas, PartsAre, no_parts, more_parts, array_is, HasBits, whole_has, range_has}
-use Rattle.meaning_laws.specs.PartFaults.{integer_has, IsThere, literal_there, other_there, IsShort}
+use Rattle.meaning_laws.specs.PartFaults.{integer_has, HasItsBits, literal_there, other_there, IsTooShort}
 use Rattle.meaning_laws.proofs.Gets.{Gives, Breaks}
 use Rattle.meaning_laws.proofs.LimitLemmas.{part_by, part_of, part_has, part_count}
 use Rattle.meaning_laws.proofs.PartLemmas.{HoldsBits, holds_bits, some_same, span_known}
@@ -65,7 +65,7 @@ module _ (look : Lookup) (variables : List Held) where
   IsSized (range name first second) bits = HasBits look variables (range name first second) (length bits)
   IsSized (of_int e) bits = HasBits look variables (of_int e) (length bits)
 
-  pub there_if : (a : ArrayTree) (bits : List Bool) → IsSized a bits → IsThere look variables a
+  pub there_if : (a : ArrayTree) (bits : List Bool) → IsSized a bits → HasItsBits look variables a
   there_if (bit_literal own) bits h = literal_there
   there_if (whole name) bits h = other_there (length bits) h
   there_if (range name first second) bits h = other_there (length bits) h
@@ -98,7 +98,7 @@ module _ (look : Lookup) (variables : List Held) where
 
   -- an array that gives fewer bits than are asked of it is short
   pub asked_breaks : (P : RunFault → Type 0) (a : ArrayTree) (n : ℕ) (bits : List Bool) → IsSized a bits →
-      (IsShort look variables a n → P LengthMismatch) → Breaks P (asked (source_of look a) n bits)
+      (IsTooShort look variables a n → P LengthMismatch) → Breaks P (asked (source_of look a) n bits)
   asked_breaks P (bit_literal own) n bits h p = tt
   asked_breaks P (whole name) n bits h p = by (nat_le n (length bits)) refl
     where
@@ -159,7 +159,7 @@ module _ (look : Lookup) (variables : List Held) where
         long = length-low_bits 32 (cast_unsigned w32 z);
       }
 
-  pub array_read : {a : ArrayTree} → IsThere look variables a → Read a
+  pub array_read : {a : ArrayTree} → HasItsBits look variables a → Read a
   array_read (literal_there {bits = bits}) = record { values = []; are = literal_is; bits = bits; is = refl }
   array_read (other_there n has) = (bits_read has).read
 
@@ -177,7 +177,7 @@ module _ (look : Lookup) (variables : List Held) where
     pub read : Read a
     pub faults : asked (source_of look a) n read.bits ≡ Faults LengthMismatch
 
-  pub short_read : {a : ArrayTree} {n : ℕ} → IsShort look variables a n → ReadShort a n
+  pub short_read : {a : ArrayTree} {n : ℕ} → IsTooShort look variables a n → ReadShort a n
   short_read {n = n} short =
       let r : ReadBits _ short.bits = bits_read short.has in
       record { read = r.read; faults = short_asked n r.read.bits short.has r.long short.fewer }

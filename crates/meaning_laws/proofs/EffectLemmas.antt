@@ -34,7 +34,7 @@ use Rattle.stapl_meaning.specs.declared.events.Event.TheVariants.{Print, Export}
 use Rattle.stapl_meaning.specs.declared.events.ExportValue.TheVariants as exports
 use Rattle.meaning_laws.specs.Limits.{IsOutside}
 use Rattle.meaning_laws.specs.ExprFaults.{size_of, bit_count, held_by}
-use Rattle.meaning_laws.specs.PartFaults.{printed_parts, ArrayIs, PartsAre, no_parts, more_parts, value_is, character_is, HasBits, whole_has, IsShort}
+use Rattle.meaning_laws.specs.PartFaults.{printed_parts, ArrayIs, PartsAre, no_parts, more_parts, value_is, character_is, HasBits, whole_has, IsTooShort}
 use Rattle.meaning_laws.specs.RowFaults.{HasNoValue, nothing_there, call_on_top, loop_on_top, HasNoLoop, nothing_left, value_above, call_above, other_loop}
 use Rattle.meaning_laws.proofs.Gets.{Gives, Breaks, then_gives, then_breaks, then_known}
 use Rattle.meaning_laws.proofs.LimitLemmas.{outside, part_of, part_known}
@@ -203,7 +203,7 @@ module _ (P : RunFault → Type 0) where
       (λ bits. Known (Falls (Says (Export key (exports.Array bits)) ∷ []) s)) (source_gives look s.store.variables P is) (λ bits e h. tt)
 
   span_does : (look : Lookup) (n : ℕ) (old : List Bool) (s : State) (span : Span) {a : ArrayTree} {vs : List Value} → ArrayIs look s.store.variables a vs →
-      (IsShort look s.store.variables a span.count → P LengthMismatch) → Does P (span_written n old (source_of look a) vs s span)
+      (IsTooShort look s.store.variables a span.count → P LengthMismatch) → Does P (span_written n old (source_of look a) vs s span)
   span_does look n old s span {a = a} {vs = vs} is p =
       then_gives (IsSized look s.store.variables a) EndsWell P (source_bits s.store.variables (source_of look a) vs)
       (λ bits. then_get (asked (source_of look a) span.count bits) (λ new. Known (Falls [] (with_variables s (slice_set s.store.variables n (held.Bits (span_put span new old)))))))
@@ -214,7 +214,7 @@ module _ (P : RunFault → Type 0) where
 
   -- all of an array
   pub copied_does : (look : Lookup) (name : List ℕ) (s : State) {a : ArrayTree} {vs : List Value} → ArrayIs look s.store.variables a vs →
-      ((n : ℕ) → HasBits look s.store.variables (whole name) n → IsShort look s.store.variables a n → P LengthMismatch) →
+      ((n : ℕ) → HasBits look s.store.variables (whole name) n → IsTooShort look s.store.variables a n → P LengthMismatch) →
       Does P (copied (IntoWhole (look.variable name)) (source_of look a) vs s)
   copied_does look name s {a = a} {vs = vs} is p = by (held_by look s.store.variables name) refl
     where
@@ -232,7 +232,7 @@ module _ (P : RunFault → Type 0) where
   -- a range of one, which was tested
   pub range_does : (look : Lookup) (name : List ℕ) (s : State) (i j size : ℕ) {a : ArrayTree} {vs : List Value} →
       bit_count (held_by look s.store.variables name) ≡ Some size → i < size → j < size → ArrayIs look s.store.variables a vs →
-      (IsShort look s.store.variables a (part_of i j).count → P LengthMismatch) →
+      (IsTooShort look s.store.variables a (part_of i j).count → P LengthMismatch) →
       Does P (copied (IntoRange of_programs (look.variable name)) (source_of look a) (Int (pos i) ∷ Int (pos j) ∷ vs) s)
   range_does look name s i j size {a = a} {vs = vs} sized first_in second_in is p = by (held_by look s.store.variables name) sized
     where

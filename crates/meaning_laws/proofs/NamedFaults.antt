@@ -13,9 +13,9 @@ use Rattle.stapl_meaning.specs.Scopes.{Scope, Played, scope_at}
 use Rattle.stapl_meaning.specs.Turns.{operands, effect}
 use Rattle.meaning_laws.specs.ExprFaults.{RangeBreaks, first_outside, second_outside, ExprBreaks, of_index, index_outside, of_operand, of_absolute, of_array, of_left, of_right}
 use Rattle.meaning_laws.specs.ExprFaults.{divides_by_zero, shifts_too_far, ArrayBreaks, of_first, of_second, of_range, of_integer}
-use Rattle.meaning_laws.specs.PartFaults.{Part, IsPartFault, PartBreaks, of_value, of_character, no_character, of_target_index, target_outside, of_part_array, PartsBreak, first_part, later_part}
+use Rattle.meaning_laws.specs.PartFaults.{WrittenPart, IsPartFault, PartBreaks, of_value, of_character, no_character, of_target_index, target_outside, of_part_array, PartsBreak, first_part, later_part}
 use Rattle.meaning_laws.specs.RowFaults.{HasShortArray, HasBadLength, HasBadCount, HasZeroStep, LacksRecord, LacksRoom, HasBrokenPart, RowBreaks, of_parts, length_mismatch, bad_length, bad_count, step_zero, no_record, records_full}
-use Rattle.meaning_laws.specs.TurnFaults.{Reaches, TurnBreaks, EndsWith}
+use Rattle.meaning_laws.specs.TurnFaults.{Reaches, TurnBreaks, EndsWithFault}
 use Rattle.meaning_laws.proofs.Gets.{Breaks}
 use Rattle.meaning_laws.proofs.ExprLemmas.{expr_breaks, expr_faults}
 use Rattle.meaning_laws.proofs.PartLemmas.{operands_are, parts_fault}
@@ -53,7 +53,7 @@ module _ (look : Lookup) (variables : List Held) where
     array_fault (of_range i j size is_i is_j sized out) = range_fault out
     array_fault (of_integer h) = expr_fault h
 
-  part_fault : {p : Part} {k : RunFault} → PartBreaks look variables p k → IsPartFault k
+  part_fault : {p : WrittenPart} {k : RunFault} → PartBreaks look variables p k → IsPartFault k
   part_fault (of_value h) = expr_fault h
   part_fault (of_character h) = expr_fault h
   part_fault (no_character z known out) = tt
@@ -61,7 +61,7 @@ module _ (look : Lookup) (variables : List Held) where
   part_fault (target_outside z size known sized out) = tt
   part_fault (of_part_array h) = array_fault h
 
-  parts_fault_so : {ps : List Part} {k : RunFault} → PartsBreak look variables ps k → IsPartFault k
+  parts_fault_so : {ps : List WrittenPart} {k : RunFault} → PartsBreak look variables ps k → IsPartFault k
   parts_fault_so (first_part h) = part_fault h
   parts_fault_so (later_part is h) = parts_fault_so h
 
@@ -138,10 +138,10 @@ tested_once scope s b values k known faults =
 module _ (Holds : Scope → State → BodyTree → Type 0) (k : RunFault)
     (breaks : (scope : Scope) (s : State) (b : BodyTree) → Holds scope s b → RowBreaks scope s b k)
     (only : (scope : Scope) (s : State) (b : BodyTree) → RowBreaks scope s b k → Holds scope s b) where
-  pub turn_table : (program : Played) (i : ℕ) (s : State) → EndsWith program i s k ↔ Reaches program i s Holds
+  pub turn_table : (program : Played) (i : ℕ) (s : State) → EndsWithFault program i s k ↔ Reaches program i s Holds
   turn_table program i s = (to_words, to_fault)
     where
-      to_words : EndsWith program i s k → Reaches program i s Holds
+      to_words : EndsWithFault program i s k → Reaches program i s Holds
       to_words e =
           let at : TurnBreaks program i s k = (turn_only program i s s [] k (i + 1) e).breaks in
           record {
@@ -152,7 +152,7 @@ module _ (Holds : Scope → State → BodyTree → Type 0) (k : RunFault)
             holds = only (scope_at program i) s at.row at.holds;
           }
 
-      to_fault : Reaches program i s Holds → EndsWith program i s k
+      to_fault : Reaches program i s Holds → EndsWithFault program i s k
       to_fault at = turn_breaks program i s k (record {
         statement = at.statement;
         stands = at.stands;
@@ -162,29 +162,29 @@ module _ (Holds : Scope → State → BodyTree → Type 0) (k : RunFault)
       })
 
 -- a program never ends with the fault of a range from a lower index to a higher one
-pub never_reversed : (program : Played) (i : ℕ) (s : State) → ¬ EndsWith program i s faults.RangeReversed
+pub never_reversed : (program : Played) (i : ℕ) (s : State) → ¬ EndsWithFault program i s faults.RangeReversed
 never_reversed program i s e =
     let at : TurnBreaks program i s faults.RangeReversed = (turn_only program i s s [] faults.RangeReversed (i + 1) e).breaks in
     not_reversed (scope_at program i) s at.holds
 
 pub part_table : (k : RunFault) → IsPartFault k → (program : Played) (i : ℕ) (s : State) →
-    EndsWith program i s k ↔ Reaches program i s (λ scope s b. HasBrokenPart scope s k b)
+    EndsWithFault program i s k ↔ Reaches program i s (λ scope s b. HasBrokenPart scope s k b)
 part_table k p = turn_table (λ scope s b. HasBrokenPart scope s k b) k (λ scope s b h. of_parts h) (λ scope s b h. is_broken scope s p h)
 
-pub short_table : (program : Played) (i : ℕ) (s : State) → EndsWith program i s faults.LengthMismatch ↔ Reaches program i s HasShortArray
+pub short_table : (program : Played) (i : ℕ) (s : State) → EndsWithFault program i s faults.LengthMismatch ↔ Reaches program i s HasShortArray
 short_table = turn_table HasShortArray faults.LengthMismatch (λ scope s b h. length_mismatch h) (λ scope s b h. is_short scope s h)
 
-pub length_table : (program : Played) (i : ℕ) (s : State) → EndsWith program i s faults.BadLength ↔ Reaches program i s HasBadLength
+pub length_table : (program : Played) (i : ℕ) (s : State) → EndsWithFault program i s faults.BadLength ↔ Reaches program i s HasBadLength
 length_table = turn_table HasBadLength faults.BadLength (λ scope s b h. bad_length h) (λ scope s b h. is_long scope s h)
 
-pub count_table : (program : Played) (i : ℕ) (s : State) → EndsWith program i s faults.BadCount ↔ Reaches program i s HasBadCount
+pub count_table : (program : Played) (i : ℕ) (s : State) → EndsWithFault program i s faults.BadCount ↔ Reaches program i s HasBadCount
 count_table = turn_table HasBadCount faults.BadCount (λ scope s b h. bad_count h) (λ scope s b h. is_count scope s h)
 
-pub step_table : (program : Played) (i : ℕ) (s : State) → EndsWith program i s faults.ZeroStep ↔ Reaches program i s HasZeroStep
+pub step_table : (program : Played) (i : ℕ) (s : State) → EndsWithFault program i s faults.ZeroStep ↔ Reaches program i s HasZeroStep
 step_table = turn_table HasZeroStep faults.ZeroStep (λ scope s b h. step_zero h) (λ scope s b h. is_step scope s h)
 
-pub record_table : (program : Played) (i : ℕ) (s : State) → EndsWith program i s faults.NoRecord ↔ Reaches program i s LacksRecord
+pub record_table : (program : Played) (i : ℕ) (s : State) → EndsWithFault program i s faults.NoRecord ↔ Reaches program i s LacksRecord
 record_table = turn_table LacksRecord faults.NoRecord (λ scope s b h. no_record h) (λ scope s b h. is_record scope s h)
 
-pub full_table : (program : Played) (i : ℕ) (s : State) → EndsWith program i s faults.RecordsFull ↔ Reaches program i s LacksRoom
+pub full_table : (program : Played) (i : ℕ) (s : State) → EndsWithFault program i s faults.RecordsFull ↔ Reaches program i s LacksRoom
 full_table = turn_table LacksRoom faults.RecordsFull (λ scope s b h. records_full h) (λ scope s b h. is_full scope s h)

@@ -17,14 +17,14 @@ use Rattle.stapl_meaning.specs.Turns.{operands}
 use Rattle.stapl_meaning.specs.Scopes.{Scope}
 use Rattle.meaning_laws.specs.Limits.{IsOutside, IsNoIndex}
 use Rattle.meaning_laws.specs.ExprFaults.{size_of, bit_count, held_by, IsInteger, ExprBreaks, ArrayBreaks, of_first, of_second, of_range, of_integer}
-use Rattle.meaning_laws.specs.PartFaults.{Part, value_part, character_part, index_part, array_part, printed_parts, target_arrays, compared_arrays, result_parts, written_parts, ArrayIs, literal_is, whole_is, range_is, integer_is, PartIs, value_is, character_is, index_is, array_is, PartsAre, no_parts, more_parts, PartBreaks, of_value, of_character, no_character, of_target_index, target_outside, of_part_array, PartsBreak, first_part, later_part}
+use Rattle.meaning_laws.specs.PartFaults.{WrittenPart, value_part, character_part, index_part, array_part, printed_parts, target_arrays, compared_arrays, result_parts, written_parts, ArrayIs, literal_is, whole_is, range_is, integer_is, PartIs, value_is, character_is, index_is, array_is, PartsAre, no_parts, more_parts, PartBreaks, of_value, of_character, no_character, of_target_index, target_outside, of_part_array, PartsBreak, first_part, later_part}
 use Rattle.meaning_laws.proofs.Gets.{Gives, then_gives, gives_more, then_known, then_faults}
 use Rattle.meaning_laws.proofs.LimitLemmas.{no_index, not_index, outside, not_outside, part_of, part_known}
 use Rattle.meaning_laws.proofs.ExprLemmas.{span_breaks, span_faults, expr_breaks, expr_faults}
 
 -- ---- parts as operands
 
-abbrev pub operands_of : Lookup → List Part → List Operand
+abbrev pub operands_of : Lookup → List WrittenPart → List Operand
 operands_of look [] = []
 operands_of look (value_part kind e ∷ ps) = plain kind e ∷ operands_of look ps
 operands_of look (character_part e ∷ ps) = a_character e ∷ operands_of look ps
@@ -48,7 +48,7 @@ compared_operands look (Some (expected, (mask, binary op a b))) = refl
 compared_operands look (Some (expected, (mask, abs e))) = refl
 compared_operands look (Some (expected, (mask, int a))) = refl
 
-after_target : (look : Lookup) (target : Option ArrayTree) (compared : List ArrayTree) (result : List Part) (os : List Operand) →
+after_target : (look : Lookup) (target : Option ArrayTree) (compared : List ArrayTree) (result : List WrittenPart) (os : List Operand) →
     os ≡ operands_of look (map array_part compared ++ result) →
     target_operands look target ++ os ≡ operands_of look (map array_part (target_arrays target ++ compared) ++ result)
 after_target look None compared result os e = e
@@ -147,7 +147,7 @@ module _ (look : Lookup) (variables : List Held) where
 
   -- ---- what the values of parts are, or where they break
 
-  one_gives : (p : Part) (ps : List Part) (g : Got Value) → Gives (λ v. PartIs look variables p (v ∷ [])) (PartBreaks look variables p) g →
+  one_gives : (p : WrittenPart) (ps : List WrittenPart) (g : Got Value) → Gives (λ v. PartIs look variables p (v ∷ [])) (PartBreaks look variables p) g →
       ((v : Value) → Gives (PartsAre look variables ps) (PartsBreak look variables ps) (values_after look variables (Some v) (operands_of look ps))) →
       Gives (PartsAre look variables (p ∷ ps)) (PartsBreak look variables (p ∷ ps)) (one_then g (operands_of look ps))
   one_gives p ps g h others =
@@ -213,7 +213,7 @@ module _ (look : Lookup) (variables : List Held) where
       (range_is i j (length bs) (e ∙ ap Known is_i) (f ∙ ap Known is_j) (ap bit_count o) first_in second_in))
 
   -- an array without indexes has no values
-  same_after : (before : Option Value) (a : ArrayTree) (ps : List Part) → ArrayIs look variables a [] →
+  same_after : (before : Option Value) (a : ArrayTree) (ps : List WrittenPart) → ArrayIs look variables a [] →
       Gives (PartsAre look variables ps) (PartsBreak look variables ps) (values_after look variables before (operands_of look ps)) →
       Gives (PartsAre look variables (array_part a ∷ ps)) (PartsBreak look variables (array_part a ∷ ps))
       (values_after look variables before (operands_of look ps))
@@ -225,12 +225,12 @@ module _ (look : Lookup) (variables : List Held) where
       by (Faults k) b = later_part (array_is is) b
       by Stuck b = tt
 
-  range_then_gives : (before : Option Value) (name : List ℕ) (first second : ExprTree) (ps : List Part) →
+  range_then_gives : (before : Option Value) (name : List ℕ) (first second : ExprTree) (ps : List WrittenPart) →
       ((v : Value) → Gives (PartsAre look variables ps) (PartsBreak look variables ps) (values_after look variables (Some v) (operands_of look ps))) →
       Gives (PartsAre look variables (array_part (range name first second) ∷ ps)) (PartsBreak look variables (array_part (range name first second) ∷ ps))
       (values_after look variables before (array_operands look (range name first second) ++ operands_of look ps))
   range_then_gives before name first second ps others =
-      let p : Part = array_part (range name first second) in
+      let p : WrittenPart = array_part (range name first second) in
       let P : RunFault → Type 0 = PartsBreak look variables (p ∷ ps) in
       let Q : List Value → Type 0 = PartsAre look variables (p ∷ ps) in
       let second_operand : Operand = record { expr = second; kind = kinds.Int; test = Range (look.variable name) } in
@@ -256,7 +256,7 @@ module _ (look : Lookup) (variables : List Held) where
       (λ vs _ are. more_parts (array_is is) are)))
       (λ vs _ h. h))
 
-  pub parts_give : (before : Option Value) (ps : List Part) →
+  pub parts_give : (before : Option Value) (ps : List WrittenPart) →
       Gives (PartsAre look variables ps) (PartsBreak look variables ps) (values_after look variables before (operands_of look ps))
   parts_give before [] = no_parts
   parts_give before (value_part kind e ∷ ps) =
@@ -330,7 +330,7 @@ module _ (look : Lookup) (variables : List Held) where
   range_known o i j size sized first_in second_in =
       let b : HoldsBits o = holds_bits o size sized in span_known o i j size (λ bits span. Int (pos j)) b.bits b.is sized first_in second_in
 
-  part_after : {p : Part} {us : List Value} (before : Option Value) → PartIs look variables p us → (ps : List Part) →
+  part_after : {p : WrittenPart} {us : List Value} (before : Option Value) → PartIs look variables p us → (ps : List WrittenPart) →
       values_after look variables before (operands_of look (p ∷ ps))
       ≡ then_get (values_after look variables (last_of before us) (operands_of look ps)) (λ vs. Known (us ++ vs))
   part_after before (value_is v known) ps = ap (λ g. one_then (then_get g (tested look variables Plain before)) (operands_of look ps)) known
@@ -353,13 +353,13 @@ module _ (look : Lookup) (variables : List Held) where
       ∙ ap (λ g. then_get (one_then g os) (λ vs. Known (Int (pos i) ∷ vs))) tested_range
       ∙ two_after (Int (pos i)) (Int (pos j)) (values_after look variables (Some (Int (pos j))) os)
 
-  pub parts_known : {ps : List Part} {vs : List Value} (before : Option Value) → PartsAre look variables ps vs →
+  pub parts_known : {ps : List WrittenPart} {vs : List Value} (before : Option Value) → PartsAre look variables ps vs →
       values_after look variables before (operands_of look ps) ≡ Known vs
   parts_known before no_parts = refl
   parts_known before (more_parts {ps = ps} {us = us} is are) =
       part_after before is ps ∙ then_known (λ vs. Known (us ++ vs)) (parts_known (last_of before us) are)
 
-  part_faults : {p : Part} {k : RunFault} (before : Option Value) → PartBreaks look variables p k → (ps : List Part) →
+  part_faults : {p : WrittenPart} {k : RunFault} (before : Option Value) → PartBreaks look variables p k → (ps : List WrittenPart) →
       values_after look variables before (operands_of look (p ∷ ps)) ≡ Faults k
   part_faults before (of_value h) ps =
       ap (λ g. one_then (then_get g (tested look variables Plain before)) (operands_of look ps)) (expr_faults look variables h)
@@ -392,7 +392,7 @@ module _ (look : Lookup) (variables : List Held) where
   part_faults before (of_part_array (of_integer h)) ps =
       ap (λ g. one_then (then_get g (tested look variables Plain before)) (operands_of look ps)) (expr_faults look variables h)
 
-  pub parts_fault : {ps : List Part} {k : RunFault} (before : Option Value) → PartsBreak look variables ps k →
+  pub parts_fault : {ps : List WrittenPart} {k : RunFault} (before : Option Value) → PartsBreak look variables ps k →
       values_after look variables before (operands_of look ps) ≡ Faults k
   parts_fault before (first_part {ps = ps} b) = part_faults before b ps
   parts_fault before (later_part {ps = ps} {us = us} is b) =

@@ -30,7 +30,7 @@ use Rattle.stapl_meaning.specs.Scopes.{Scope}
 use Rattle.stapl_meaning.specs.Turns.{effect, tap_or_idle}
 use Rattle.meaning_laws.specs.Limits.{IsOutside}
 use Rattle.meaning_laws.specs.ExprFaults.{bit_count, held_by}
-use Rattle.meaning_laws.specs.PartFaults.{written_parts, range_is, PartsAre, no_parts, more_parts, value_is, array_is, RangeHas, HasBits, whole_has, range_has, IsShort}
+use Rattle.meaning_laws.specs.PartFaults.{written_parts, range_is, PartsAre, no_parts, more_parts, value_is, array_is, RangeHas, HasBits, whole_has, range_has, IsTooShort}
 use Rattle.meaning_laws.specs.RowFaults.{HasNoValue, nothing_there, call_on_top, loop_on_top, HasNoLoop, nothing_left, value_above, call_above, other_loop, RowBreaks, of_parts, length_mismatch, bad_length, bad_count, step_zero, no_record, records_full, assigned_short, range_short, zero_step, full_for, full_push, full_call, no_loop, no_value, no_value_for_element, left_out, written_down, bad_cycles, bad_usec, bad_usec_alone, bad_hertz, bad_scan, scan_short, bad_padding, padding_short}
 use Rattle.meaning_laws.proofs.Gets.{then_known, then_faults}
 use Rattle.meaning_laws.proofs.LimitLemmas.{not_outside, part_of, part_count, part_known}
@@ -133,7 +133,7 @@ module _ (scope : Scope) (s : State) where
       (ap (values_of scope.look s.store.variables) (operands_are scope b) ∙ parts_known scope.look s.store.variables None are) ∙ e
 
   range_row : (name : List ℕ) (first second : ExprTree) (a : ArrayTree) (n : ℕ) → HasBits scope.look s.store.variables (range name first second) n →
-      IsShort scope.look s.store.variables a n → row_got scope s (assign_range name first second a) ≡ Faults LengthMismatch
+      IsTooShort scope.look s.store.variables a n → row_got scope s (assign_range name first second a) ≡ Faults LengthMismatch
   range_row name first second a n (range_has i j size is_i is_j sized first_in second_in count) short =
       let r : ReadShort scope.look s.store.variables a n = short_read scope.look s.store.variables short in
       from_values (assign_range name first second a) (Int (pos i) ∷ Int (pos j) ∷ r.read.values) LengthMismatch

@@ -20,7 +20,7 @@ use Rattle.stapl_meaning.specs.ScanTrees.{given_source}
 use Rattle.stapl_meaning.specs.Scopes.{Scope}
 use Rattle.stapl_meaning.specs.Turns.{operands, effect, tap_of, tap_or_idle}
 use Rattle.meaning_laws.specs.ExprFaults.{IsInteger}
-use Rattle.meaning_laws.specs.PartFaults.{Part, padding_arrays, written_parts, literal_is, range_is, PartsAre, no_parts, more_parts, value_is, index_is, array_is, PartsBreak, HasBits, range_has, OneIsShort, this_short, later_short}
+use Rattle.meaning_laws.specs.PartFaults.{WrittenPart, padding_arrays, written_parts, literal_is, range_is, PartsAre, no_parts, more_parts, value_is, index_is, array_is, PartsBreak, HasBits, range_has, OneIsShort, this_short, later_short}
 use Rattle.meaning_laws.specs.RowFaults.{RowBreaks, of_parts, length_mismatch, bad_length, bad_count, step_zero, no_record, records_full, assigned_short, range_short, zero_step, full_for, full_push, full_call, no_loop, no_value, no_value_for_element, left_out, written_down, bad_cycles, bad_usec, bad_usec_alone, bad_hertz, bad_scan, scan_short, bad_padding, padding_short}
 use Rattle.meaning_laws.proofs.Gets.{Gives, Breaks, then_gives, then_breaks, gives_more}
 use Rattle.meaning_laws.proofs.LimitLemmas.{part_of, part_has}
@@ -49,7 +49,7 @@ module _ (scope : Scope) (s : State) where
   abbrev EffectDoes : BodyTree → List Value → Type 0
   EffectDoes b vs = Does (RowBreaks scope s b) (effect scope b vs s)
 
-  abbrev Parts : List Part → List Value → Type 0
+  abbrev Parts : List WrittenPart → List Value → Type 0
   Parts ps vs = PartsAre scope.look s.store.variables ps vs
 
   abbrev WrittenParts : BodyTree → List Value → Type 0
@@ -223,7 +223,7 @@ module _ (scope : Scope) (s : State) where
 
   pub row_does : (b : BodyTree) → Does (RowBreaks scope s b) (row_got scope s b)
   row_does b =
-      let ps : List Part = written_parts scope.look b in
+      let ps : List WrittenPart = written_parts scope.look b in
       let P : RunFault → Type 0 = RowBreaks scope s b in
       let g : Got (List Value) = values_of scope.look s.store.variables (operands scope b) in
       then_gives (Parts ps) EndsWell P g (λ values. effect scope b values s)

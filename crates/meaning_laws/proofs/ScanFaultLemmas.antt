@@ -17,7 +17,7 @@ use Rattle.stapl_meaning.specs.Scans.{CellPart, target_width, settings_of, lengt
 use Rattle.stapl_meaning.specs.ScanTrees.{given_target, compare_parts, scan_parts}
 use Rattle.meaning_laws.specs.Limits.{IsOutside}
 use Rattle.meaning_laws.specs.ExprFaults.{size_of, bit_count, held_by, IsInteger}
-use Rattle.meaning_laws.specs.PartFaults.{Part, value_part, array_part, target_arrays, compared_arrays, scan_arrays, result_parts, whole_is, range_is, PartsAre, no_parts, more_parts, value_is}
+use Rattle.meaning_laws.specs.PartFaults.{WrittenPart, value_part, array_part, target_arrays, compared_arrays, scan_arrays, result_parts, whole_is, range_is, PartsAre, no_parts, more_parts, value_is}
 use Rattle.meaning_laws.specs.PartFaults.{index_is, array_is, RangeHas, HasBits, whole_has, range_has, other_there, AreThere, no_array, more_arrays, OneIsShort, this_short, later_short}
 use Rattle.meaning_laws.proofs.Gets.{then_gives, then_known, then_faults}
 use Rattle.meaning_laws.proofs.LimitLemmas.{part_of, part_count}
@@ -77,7 +77,7 @@ module _ (look : Lookup) (variables : List Held) where
     pub values : List Value
     pub place : Option Place
     pub is : target_found variables (given_target look target) values ≡ Known place
-    pub are : (compared : List ArrayTree) (result : List Part) (ws : List Value) → PartsAre look variables (map array_part compared ++ result) ws →
+    pub are : (compared : List ArrayTree) (result : List WrittenPart) (ws : List Value) → PartsAre look variables (map array_part compared ++ result) ws →
         PartsAre look variables (map array_part (target_arrays target ++ compared) ++ result) (values ++ ws)
     pub front : (ws : List Value) → take (width_of look variables target) (values ++ ws) ≡ values
     pub back : (ws : List Value) → drop (width_of look variables target) (values ++ ws) ≡ ws

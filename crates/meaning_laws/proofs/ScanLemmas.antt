@@ -16,7 +16,7 @@ use Rattle.stapl_meaning.specs.Scans.{CellPart, settings_of, length_between, sca
 use Rattle.stapl_meaning.specs.ScanTrees.{given_source, given_target, compare_parts, scan_parts}
 use Rattle.meaning_laws.specs.Limits.{IsOutside}
 use Rattle.meaning_laws.specs.ExprFaults.{bit_count, held_by}
-use Rattle.meaning_laws.specs.PartFaults.{Part, array_part, target_arrays, compared_arrays, scan_arrays, result_parts, padding_arrays, ArrayIs, whole_is, range_is, PartsAre, no_parts, more_parts, index_is, array_is, HasBits, whole_has, range_has, IsThere, other_there, IsShort, AreThere, no_array, more_arrays, OneIsShort, this_short, later_short}
+use Rattle.meaning_laws.specs.PartFaults.{WrittenPart, array_part, target_arrays, compared_arrays, scan_arrays, result_parts, padding_arrays, ArrayIs, whole_is, range_is, PartsAre, no_parts, more_parts, index_is, array_is, HasBits, whole_has, range_has, HasItsBits, other_there, IsTooShort, AreThere, no_array, more_arrays, OneIsShort, this_short, later_short}
 use Rattle.meaning_laws.proofs.Gets.{Gives, Breaks, then_gives, then_breaks, breaks_more, then_known, then_faults}
 use Rattle.meaning_laws.proofs.LimitLemmas.{outside_both, not_both, both, is_between, part_of, part_has}
 use Rattle.meaning_laws.proofs.PartLemmas.{HoldsBits, holds_bits, span_known, index_known}
@@ -106,7 +106,7 @@ module _ (look : Lookup) (variables : List Held) where
             ∙ then_faults (λ n. asked (source_of look a) n r.bits) (length_faults 0 65536 z out);
       }
 
-  pub short_padding_faults : (a : ArrayTree) (n : ℕ) → n ≤ 65536 → IsShort look variables a n → PaddingFaults (Some a) (pos n) LengthMismatch
+  pub short_padding_faults : (a : ArrayTree) (n : ℕ) → n ≤ 65536 → IsTooShort look variables a n → PaddingFaults (Some a) (pos n) LengthMismatch
   short_padding_faults a n few short =
       let r : ReadShort look variables a n = short_read look variables short in
       record {
@@ -140,7 +140,7 @@ module _ (look : Lookup) (variables : List Held) where
   abbrev pub in_array : List ℕ → Span → Option Place
   in_array name span = Some (record { array = look.variable name; span = span })
 
-  target_gives : (P : RunFault → Type 0) (target : Option ArrayTree) (compared : List ArrayTree) (result : List Part) (ws : List Value) →
+  target_gives : (P : RunFault → Type 0) (target : Option ArrayTree) (compared : List ArrayTree) (result : List WrittenPart) (ws : List Value) →
       PartsAre look variables (map array_part (target_arrays target ++ compared) ++ result) ws →
       Gives (TargetFits target) P (target_found variables (given_target look target) (take (width_of target) ws))
   target_gives P None compared result ws are = record { there = no_array; shorts = λ n. tt }
@@ -171,7 +171,7 @@ module _ (look : Lookup) (variables : List Held) where
         shorts = λ n. place_shorts n (part_of i j).count (range name first second) (record { array = look.variable name; span = part_of i j }) has refl;
       })
 
-  target_back : (target : Option ArrayTree) (compared : List ArrayTree) (result : List Part) (ws : List Value) →
+  target_back : (target : Option ArrayTree) (compared : List ArrayTree) (result : List WrittenPart) (ws : List Value) →
       PartsAre look variables (map array_part (target_arrays target ++ compared) ++ result) ws →
       PartsAre look variables (map array_part compared ++ result) (drop (width_of target) ws)
   target_back None compared result ws are = are
@@ -296,7 +296,7 @@ module _ (look : Lookup) (variables : List Held) where
     found_is {us = us} is ws = ap₂ found_by (array_front look variables is ws) (array_back look variables is ws)
 
     pub record FoundFits (found : Found) : Type 0 where
-      pub there : IsThere look variables source
+      pub there : HasItsBits look variables source
       pub shorts : (n : ℕ) → Breaks (Shorts n (source ∷ [])) (asked (source_of look source) n found.data_bits)
       pub target_fits : TargetFits target found.target
       pub compare_fits : CompareFits compare found.compare

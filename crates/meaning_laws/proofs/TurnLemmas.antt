@@ -16,7 +16,7 @@ use Rattle.stapl_meaning.specs.Turns.{effect, target, rows, carried, rows_done, 
 use Rattle.meaning_laws.specs.ExprFaults.{ExprBreaks}
 use Rattle.meaning_laws.specs.PartFaults.{of_value, first_part}
 use Rattle.meaning_laws.specs.RowFaults.{RowBreaks, of_parts}
-use Rattle.meaning_laws.specs.TurnFaults.{IsReached, itself, inner, TurnBreaks, EndsByTable, NeverFaults}
+use Rattle.meaning_laws.specs.TurnFaults.{IsCarriedOut, itself, inner, TurnBreaks, EndsByTable, NeverFaults}
 use Rattle.meaning_laws.proofs.Gets.{Breaks}
 use Rattle.meaning_laws.proofs.ExprLemmas.{expr_breaks}
 use Rattle.meaning_laws.proofs.EffectLemmas.{Does}
@@ -25,7 +25,7 @@ use Rattle.meaning_laws.proofs.RowFaultLemmas.{row_faults}
 
 -- what breaks a statement: itself, or an inner one that is reached
 abbrev StatementBreaks : Scope → State → BodyTree → RunFault → Type 0
-StatementBreaks scope s b k = (row : BodyTree) × IsReached scope s b row × RowBreaks scope s row k
+StatementBreaks scope s b k = (row : BodyTree) × IsCarriedOut scope s b row × RowBreaks scope s row k
 
 -- two tests in a row are one
 both_got : {A B : Type 0} (g : Got A) (f : A → Got B) (s : State) (go : B → Turned) →
@@ -132,7 +132,7 @@ module _ (scope : Scope) (s : State) where
   row_breaks (integer_array name size (Some zs)) k h = carried_breaks (integer_array name size (Some zs)) k (rows_done scope []) h
   row_breaks b k h = carried_breaks b k (rows_done scope []) h
 
-  reached_breaks : {b row : BodyTree} {k : RunFault} → IsReached scope s b row → RowBreaks scope s row k → done scope s b ≡ Broken [] k s
+  reached_breaks : {b row : BodyTree} {k : RunFault} → IsCarriedOut scope s b row → RowBreaks scope s row k → done scope s b ≡ Broken [] k s
   reached_breaks {row = row} {k = k} itself h = row_breaks row k (row_faults scope s h)
   reached_breaks (inner {e = e} {b = b} is reached) h = ap (if_done e b) is ∙ ap (preceded []) (reached_breaks reached h)
 

@@ -18,11 +18,11 @@ use Rattle.meaning_laws.specs.ExprFaults.{size_of, bit_count, held_by, IsInteger
 
 -- An expression of which a value of a kind is wanted; the number of a character in CHR$; an index of the array of a
 -- name; or an array, of which a range has two indexes.
-pub data Part : Type 0 where
-  value_part : ValueKind → ExprTree → Part
-  character_part : ExprTree → Part
-  index_part : (name : List ℕ) → ExprTree → Part
-  array_part : ArrayTree → Part
+pub data WrittenPart : Type 0 where
+  value_part : ValueKind → ExprTree → WrittenPart
+  character_part : ExprTree → WrittenPart
+  index_part : (name : List ℕ) → ExprTree → WrittenPart
+  array_part : ArrayTree → WrittenPart
 
 -- the faults of parts: they come before anything is done
 abbrev pub IsPartFault : RunFault → Type 0
@@ -33,11 +33,11 @@ IsPartFault BadChar = Unit {0}
 IsPartFault _ = ⊥
 
 -- an expression that may be left out
-abbrev pub given_part : Option ExprTree → List Part
+abbrev pub given_part : Option ExprTree → List WrittenPart
 given_part None = []
 given_part (Some e) = value_part kinds.Int e ∷ []
 
-abbrev pub printed_parts : Lookup → List PartTree → List Part
+abbrev pub printed_parts : Lookup → List PartTree → List WrittenPart
 printed_parts look [] = []
 printed_parts look (string bytes ∷ parts) = printed_parts look parts
 printed_parts look (value e ∷ parts) = value_part (printed_kind (expr_kind look.kind e)) e ∷ printed_parts look parts
@@ -59,7 +59,7 @@ abbrev pub scan_arrays : ArrayTree → Option ArrayTree → Option CompareTree �
 scan_arrays source target compare = source ∷ (target_arrays target ++ compared_arrays compare)
 
 -- the index of the element that takes the result of a comparison
-abbrev pub result_parts : Option CompareTree → List Part
+abbrev pub result_parts : Option CompareTree → List WrittenPart
 result_parts (Some (expected, (mask, element name index))) = index_part name index ∷ []
 result_parts _ = []
 
@@ -69,7 +69,7 @@ padding_arrays None = []
 padding_arrays (Some a) = a ∷ []
 
 -- the parts of a statement, in the written order
-abbrev pub written_parts : Lookup → BodyTree → List Part
+abbrev pub written_parts : Lookup → BodyTree → List WrittenPart
 written_parts look (boolean name (Some b)) = value_part kinds.Bit (number (bit_number b)) ∷ []
 written_parts look (integer name (Some z)) = value_part kinds.Int (number z) ∷ []
 written_parts look (assign name e) = value_part (given_kind (look.kind name)) e ∷ []
@@ -110,7 +110,7 @@ module _ (look : Lookup) (variables : List Held) where
     integer_is : {e : ExprTree} (v : Value) → value_of look variables kinds.Int e ≡ Known v → ArrayIs (of_int e) (v ∷ [])
 
   -- a part that breaks nothing, and its values
-  pub data PartIs : Part → List Value → Type 0 where
+  pub data PartIs : WrittenPart → List Value → Type 0 where
     value_is : {kind : ValueKind} {e : ExprTree} (v : Value) → value_of look variables kind e ≡ Known v →
         PartIs (value_part kind e) (v ∷ [])
     character_is : {e : ExprTree} (n : ℕ) → IsInteger look variables e (pos n) → n ≤ 255 →
@@ -120,12 +120,12 @@ module _ (look : Lookup) (variables : List Held) where
     array_is : {a : ArrayTree} {vs : List Value} → ArrayIs a vs → PartIs (array_part a) vs
 
   -- parts that break nothing, and their values
-  pub data PartsAre : List Part → List Value → Type 0 where
+  pub data PartsAre : List WrittenPart → List Value → Type 0 where
     no_parts : PartsAre [] []
-    more_parts : {p : Part} {ps : List Part} {us vs : List Value} → PartIs p us → PartsAre ps vs → PartsAre (p ∷ ps) (us ++ vs)
+    more_parts : {p : WrittenPart} {ps : List WrittenPart} {us vs : List Value} → PartIs p us → PartsAre ps vs → PartsAre (p ∷ ps) (us ++ vs)
 
   -- the fault of a part: that of its expression, and then its own
-  pub data PartBreaks : Part → RunFault → Type 0 where
+  pub data PartBreaks : WrittenPart → RunFault → Type 0 where
     of_value : {kind : ValueKind} {e : ExprTree} {k : RunFault} → ExprBreaks look variables kind e k → PartBreaks (value_part kind e) k
     of_character : {e : ExprTree} {k : RunFault} → ExprBreaks look variables kinds.Int e k → PartBreaks (character_part e) k
     no_character : {e : ExprTree} (z : ℤ) → IsInteger look variables e z → IsOutside (pos 0) (pos 255) z →
@@ -137,9 +137,9 @@ module _ (look : Lookup) (variables : List Held) where
     of_part_array : {a : ArrayTree} {k : RunFault} → ArrayBreaks look variables a k → PartBreaks (array_part a) k
 
   -- the fault of the first part that has one, if all parts before it break nothing
-  pub data PartsBreak : List Part → RunFault → Type 0 where
-    first_part : {p : Part} {ps : List Part} {k : RunFault} → PartBreaks p k → PartsBreak (p ∷ ps) k
-    later_part : {p : Part} {ps : List Part} {us : List Value} {k : RunFault} → PartIs p us → PartsBreak ps k → PartsBreak (p ∷ ps) k
+  pub data PartsBreak : List WrittenPart → RunFault → Type 0 where
+    first_part : {p : WrittenPart} {ps : List WrittenPart} {k : RunFault} → PartBreaks p k → PartsBreak (p ∷ ps) k
+    later_part : {p : WrittenPart} {ps : List WrittenPart} {us : List Value} {k : RunFault} → PartIs p us → PartsBreak ps k → PartsBreak (p ∷ ps) k
 
   -- How many bits an array has that is no literal. A literal has as many as are asked of it.
   pub data HasBits : ArrayTree → ℕ → Type 0 where
@@ -151,12 +151,12 @@ module _ (look : Lookup) (variables : List Held) where
     integer_has : {e : ExprTree} (z : ℤ) → IsInteger look variables e z → HasBits (of_int e) 32
 
   -- an array that has bits
-  pub data IsThere : ArrayTree → Type 0 where
-    literal_there : {bits : List Bool} → IsThere (bit_literal bits)
-    other_there : {a : ArrayTree} (n : ℕ) → HasBits a n → IsThere a
+  pub data HasItsBits : ArrayTree → Type 0 where
+    literal_there : {bits : List Bool} → HasItsBits (bit_literal bits)
+    other_there : {a : ArrayTree} (n : ℕ) → HasBits a n → HasItsBits a
 
   -- an array that is no literal has fewer bits than are asked of it
-  pub record IsShort (a : ArrayTree) (asked : ℕ) : Type 0 where
+  pub record IsTooShort (a : ArrayTree) (asked : ℕ) : Type 0 where
     pub bits : ℕ
     pub has : HasBits a bits
     pub fewer : bits < asked
@@ -164,9 +164,9 @@ module _ (look : Lookup) (variables : List Held) where
   -- all arrays have bits
   pub data AreThere : List ArrayTree → Type 0 where
     no_array : AreThere []
-    more_arrays : {a : ArrayTree} {rest : List ArrayTree} → IsThere a → AreThere rest → AreThere (a ∷ rest)
+    more_arrays : {a : ArrayTree} {rest : List ArrayTree} → HasItsBits a → AreThere rest → AreThere (a ∷ rest)
 
   -- one of these arrays has fewer bits than are asked of it, and all others have bits
   pub data OneIsShort (asked : ℕ) : List ArrayTree → Type 0 where
-    this_short : {a : ArrayTree} {rest : List ArrayTree} → IsShort a asked → AreThere rest → OneIsShort asked (a ∷ rest)
-    later_short : {a : ArrayTree} {rest : List ArrayTree} → IsThere a → OneIsShort asked rest → OneIsShort asked (a ∷ rest)
+    this_short : {a : ArrayTree} {rest : List ArrayTree} → IsTooShort a asked → AreThere rest → OneIsShort asked (a ∷ rest)
+    later_short : {a : ArrayTree} {rest : List ArrayTree} → HasItsBits a → OneIsShort asked rest → OneIsShort asked (a ∷ rest)

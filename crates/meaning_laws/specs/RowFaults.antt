@@ -20,7 +20,7 @@ use Rattle.stapl_meaning.specs.Scopes.{Scope}
 use Rattle.stapl_meaning.specs.Turns.{tap_or_idle}
 use Rattle.meaning_laws.specs.Limits.{IsOutside}
 use Rattle.meaning_laws.specs.ExprFaults.{IsInteger}
-use Rattle.meaning_laws.specs.PartFaults.{index_part, scan_arrays, padding_arrays, result_parts, written_parts, PartsAre, PartsBreak, HasBits, IsShort, AreThere, OneIsShort}
+use Rattle.meaning_laws.specs.PartFaults.{index_part, scan_arrays, padding_arrays, result_parts, written_parts, PartsAre, PartsBreak, HasBits, IsTooShort, AreThere, OneIsShort}
 
 -- the topmost record is no value, or there is none
 pub data HasNoValue : List Record → Type 0 where
@@ -42,9 +42,9 @@ module _ (scope : Scope) (s : State) where
   Is e z = IsInteger scope.look s.store.variables e z
 
   -- an expression that is left out, or has an integer
-  pub data IsGiven : Option ExprTree → Type 0 where
-    left_out : IsGiven None
-    written_down : {e : ExprTree} (z : ℤ) → Is e z → IsGiven (Some e)
+  pub data IsIntegerIfGiven : Option ExprTree → Type 0 where
+    left_out : IsIntegerIfGiven None
+    written_down : {e : ExprTree} (z : ℤ) → Is e z → IsIntegerIfGiven (Some e)
 
   -- the state of a WAIT is one in which a chain may stay, as it is in each program
   abbrev pub StaysIn : Option ℕ → Type 0
@@ -58,16 +58,16 @@ module _ (scope : Scope) (s : State) where
   -- target, a scan for its length, of each of its arrays, and a padding for its length. That length is in its limits.
   pub data HasShortArray : BodyTree → Type 0 where
     assigned_short : {name : List ℕ} {a : ArrayTree} (n : ℕ) → HasBits scope.look s.store.variables (whole name) n →
-        IsShort scope.look s.store.variables a n → HasShortArray (assign_array name a)
+        IsTooShort scope.look s.store.variables a n → HasShortArray (assign_array name a)
     range_short : {name : List ℕ} {first second : ExprTree} {a : ArrayTree} (n : ℕ) →
-        HasBits scope.look s.store.variables (range name first second) n → IsShort scope.look s.store.variables a n →
+        HasBits scope.look s.store.variables (range name first second) n → IsTooShort scope.look s.store.variables a n →
         HasShortArray (assign_range name first second a)
     scan_short : {register : Register} {count : ExprTree} {source : ArrayTree} {target : Option ArrayTree} {compare : Option CompareTree}
         (n : ℕ) (values : List Value) → Is count (pos n) → PartsAre scope.look s.store.variables (result_parts compare) values →
         1 ≤ n → n ≤ 4194304 → OneIsShort scope.look s.store.variables n (scan_arrays source target compare) →
         HasShortArray (scan register count source target compare)
     padding_short : {which : Padding} {count : ExprTree} {a : ArrayTree} (n : ℕ) → Is count (pos n) → n ≤ 65536 →
-        IsShort scope.look s.store.variables a n → HasShortArray (pad which count (Some a))
+        IsTooShort scope.look s.store.variables a n → HasShortArray (pad which count (Some a))
 
   -- BadLength: a length is outside its limits, and all arrays are there. So it comes before LengthMismatch.
   pub data HasBadLength : BodyTree → Type 0 where
@@ -82,7 +82,7 @@ module _ (scope : Scope) (s : State) where
   -- BadCount: a count of clocks is outside its limits, then one of microseconds; or a frequency is below 1
   pub data HasBadCount : BodyTree → Type 0 where
     bad_cycles : {state last : Option ℕ} {cycles : ExprTree} {usec : Option ExprTree} (n : ℤ) → StaysIn state → Is cycles n →
-        IsGiven usec → IsOutside (pos 0) (pos 16777216) n → HasBadCount (wait_cycles state cycles usec last)
+        IsIntegerIfGiven usec → IsOutside (pos 0) (pos 16777216) n → HasBadCount (wait_cycles state cycles usec last)
     bad_usec : {state last : Option ℕ} {cycles usec : ExprTree} (n : ℕ) (m : ℤ) → StaysIn state → Is cycles (pos n) →
         n ≤ 16777216 → Is usec m → m <ℤ pos 0 → HasBadCount (wait_cycles state cycles (Some usec) last)
     bad_usec_alone : {state last : Option ℕ} {usec : ExprTree} (m : ℤ) → StaysIn state → Is usec m → m <ℤ pos 0 →

@@ -14,17 +14,17 @@ use Rattle.stapl_meaning.specs.Turns.{turn}
 use Rattle.meaning_laws.specs.RowFaults.{HasBrokenPart, RowBreaks}
 
 -- what of a statement is carried out: itself, and the inner statement of an IF whose condition is 1
-pub data IsReached (scope : Scope) (s : State) : (statement reached : BodyTree) → Type 0 where
-  itself : {b : BodyTree} → IsReached scope s b b
+pub data IsCarriedOut (scope : Scope) (s : State) : (statement reached : BodyTree) → Type 0 where
+  itself : {b : BodyTree} → IsCarriedOut scope s b b
   inner : {e : ExprTree} {b reached : BodyTree} → value_of scope.look s.store.variables kinds.Bit e ≡ Known (Bit true) →
-      IsReached scope s b reached → IsReached scope s (if_then e b) reached
+      IsCarriedOut scope s b reached → IsCarriedOut scope s (if_then e b) reached
 
 -- the turn at a place comes to a statement of which this holds, its own one or an inner one
 pub record Reaches (program : Played) (i : ℕ) (s : State) (Holds : Scope → State → BodyTree → Type 0) : Type 0 where
   pub statement : StmtTree
   pub stands : slice_get program.pieces i ≡ Some statement
   pub row : BodyTree
-  pub reached : IsReached (scope_at program i) s statement.body row
+  pub reached : IsCarriedOut (scope_at program i) s statement.body row
   pub holds : Holds (scope_at program i) s row
 
 -- the turn at a place breaks with a fault, by the table
@@ -36,8 +36,8 @@ abbrev pub ReachesBrokenPart : Played → ℕ → State → RunFault → Type 0
 ReachesBrokenPart program i s k = Reaches program i s (λ scope s b. HasBrokenPart scope s k b)
 
 -- the turn at a place ends with a fault of its piece: nothing was done, and the state is as it was
-abbrev pub EndsWith : Played → ℕ → State → RunFault → Type 0
-EndsWith program i s k = turn program i s ≡ Over [] (Fault k (i + 1)) s
+abbrev pub EndsWithFault : Played → ℕ → State → RunFault → Type 0
+EndsWithFault program i s k = turn program i s ≡ Over [] (Fault k (i + 1)) s
 
 -- A turn that ends with a fault of a piece ends by the table: it breaks with that fault, the piece is its own, nothing
 -- was done before it, and the state is as it was.

@@ -10,7 +10,7 @@ use Rattle.tool_frame.specs.Answers.{Says}
 use Rattle.tool_frame.specs.Frame.{SaysAndLeaves}
 use Rattle.tool_frame.proofs.AnswerLemmas.{IsWithin, says_within}
 use Rattle.play_words.specs.declared.status.Status.{Status}
-use Rattle.play_words.specs.Statuses.{IsPlayed}
+use Rattle.play_words.specs.Statuses.{IsOfPlay}
 use Rattle.code_plays.specs.Racks.{KeepsRack}
 use Rattle.code_plays.proofs.PlayLemmas.{rack_as, rack_failed, rack_refused, rack_unread}
 use Rattle.play_tool.specs.FinalRacks.{LeavesRack}
@@ -29,7 +29,7 @@ module _ {D Kind : Type 0} {kind_of : D → Kind} {fitted : D → Option SoundCa
       LeavesRack kind_of fitted P F items items r
   left_failed r is = record { rack = rack_failed r is; unread = λ e. refl }
 
-  pub left_refused : {P : Type 0} {F : List (Option SoundCard) → Type 0} {items : List D} (status : Status) → (IsPlayed status → ⊥) →
+  pub left_refused : {P : Type 0} {F : List (Option SoundCard) → Type 0} {items : List D} (status : Status) → (IsOfPlay status → ⊥) →
       LeavesRack kind_of fitted P F items items (Ok status)
   left_refused status never = record { rack = rack_refused status never; unread = λ e. refl }
 

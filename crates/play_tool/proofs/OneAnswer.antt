@@ -28,7 +28,7 @@ use Rattle.play_tool.specs.declared.sources.Source.{Source}
 use Rattle.play_tool.specs.declared.sources.Source.TheVariants.{Program, Code}
 use Rattle.play_tool.specs.declared.programs.Work.{Work}
 use Rattle.play_tool.specs.declared.programs.Work.TheVariants.{Check, List as Lists, Compile}
-use Rattle.play_tool.specs.Answers.{IsDone, Compiles, Works, TextAnswer, refused, accepted, code_refused, code_accepted, SourceAnswer, HeldAnswer, BoardAnswer, board_refused, board_read, PlayAnswer, WorkAnswer, soak_request, soak_head, SoakAnswer, RequestAnswer, WordsAnswer, Answer, usage, asked}
+use Rattle.play_tool.specs.Answers.{IsDoneWith, Compiles, Works, TextAnswer, refused, accepted, code_refused, code_accepted, SourceAnswer, HeldAnswer, BoardAnswer, board_refused, board_read, PlayAnswer, WorkAnswer, soak_request, soak_head, SoakAnswer, RequestAnswer, WordsAnswer, Answer, usage, asked}
 use Rattle.named_files.proofs.BoardLemmas.{one_held, one_fault, board_or_fault}
 use Rattle.play_tool.proofs.AnswerLemmas.{request_of_words}
 use Rattle.play_tool.proofs.OneChoice.{none_or_bad, none_or_chosen, bad_or_chosen, one_choice, has_or_lacks}
@@ -85,11 +85,11 @@ one_play {plays = plays} {request = request} (played chosen a f is g) (played ot
 same_done : {xs ys : List ℕ} {s t : Status} → xs ≡ ys → s ≡ Done (pos 0) → t ≡ Done (pos 0) → said xs s ≡ said ys t
 same_done e f g = rw (e, f, g) refl
 
-one_check : {bytes : List ℕ} {program : List StmtTree} {xs ys : List ℕ} {s t : Status} → IsDone (IsCheckText bytes program) xs s → IsDone (IsCheckText bytes program) ys t →
+one_check : {bytes : List ℕ} {program : List StmtTree} {xs ys : List ℕ} {s t : Status} → IsDoneWith (IsCheckText bytes program) xs s → IsDoneWith (IsCheckText bytes program) ys t →
     said xs s ≡ said ys t
 one_check a b = same_done (one_check_text a.said b.said) a.done b.done
 
-one_list : (program : List StmtTree) {xs ys : List ℕ} {s t : Status} → IsDone (λ text. text ≡ list_text program) xs s → IsDone (λ text. text ≡ list_text program) ys t →
+one_list : (program : List StmtTree) {xs ys : List ℕ} {s t : Status} → IsDoneWith (λ text. text ≡ list_text program) xs s → IsDoneWith (λ text. text ≡ list_text program) ys t →
     said xs s ≡ said ys t
 one_list program a b = same_done (a.said ∙ sym b.said) a.done b.done
 

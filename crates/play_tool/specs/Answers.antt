@@ -55,14 +55,14 @@ pub record Compiles (program : List StmtTree) (text : List ℕ) (status : Status
   pub done : status ≡ Done (pos 0)
 
 -- The work is done with such a text.
-pub record IsDone (says : List ℕ → Type 0) (text : List ℕ) (status : Status) : Type 0 where
+pub record IsDoneWith (says : List ℕ → Type 0) (text : List ℕ) (status : Status) : Type 0 where
   pub said : says text
   pub done : status ≡ Done (pos 0)
 
 -- what is done with the text of a program that is not played
 abbrev pub Works : Work → List ℕ → List StmtTree → (List ℕ → Status → Type 0)
-Works Check bytes program = IsDone (IsCheckText bytes program)
-Works Lists bytes program = IsDone (λ text. text ≡ list_text program)
+Works Check bytes program = IsDoneWith (IsCheckText bytes program)
+Works Lists bytes program = IsDoneWith (λ text. text ≡ list_text program)
 Works Compile bytes program = Compiles program
 
 -- The answer for a text, by what is answered for a program: it is refused at its first fault, or it is a program.

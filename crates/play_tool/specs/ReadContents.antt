@@ -11,7 +11,7 @@ use Rattle.play_words.specs.declared.requests.Request.{Request}
 use Rattle.play_words.specs.declared.requests.Request.TheVariants as requests
 use Rattle.play_words.specs.Words.{play_files, files_of, IsRequest}
 use Rattle.play_words.specs.declared.status.Status.{Status}
-use Rattle.play_words.specs.Statuses.{IsPlayed}
+use Rattle.play_words.specs.Statuses.{IsOfPlay}
 use Rattle.play_tool.specs.FinalRacks.{WordsHoldFinal, AskForPlay}
 use Rattle.play_tool.specs.Alone.{IsQuietAlone, PlaysAlone}
 use Rattle.play_tool.specs.Compiled.{RunsCompiled, PlaysProgram}
@@ -69,6 +69,6 @@ pub record IsReachedBy (told : Option (List (List ℕ × List ℕ))) (words : Li
 pub record Answered (answers : List ℕ → Status → Type 0) (words : List (List ℕ)) (contents : List (Option (List ℕ)))
     (before after : Option (List ℕ)) (status : Status) (rack : List (Option SoundCard)) : Type 0 where
   pub wrote : Wrote answers before after status
-  pub leaves : AskForPlay words → IsPlayed status → WordsHoldFinal words contents rack
+  pub leaves : AskForPlay words → IsOfPlay status → WordsHoldFinal words contents rack
   pub alone : (q : IsQuietAlone words (λ request. contents)) → Wrote (PlaysAlone q) before after status
   pub compiled : (q : RunsCompiled words (λ request. contents)) → Wrote (PlaysProgram q) before after status

@@ -14,7 +14,7 @@ ghost use Rattle.play_tool.specs.NoFaults.{no_fault_codes};
 use crate::answering::answer_request;
 use dev_card::Device;
 use named_files::put_usage;
-use play_words::{HELP, VERSION, Status, WordsRefused, read_words};
+use play_words::{HELP, Status, VERSION, WordsRefused, read_words};
 use std::alloc::Global;
 use tool_frame::{NoAnswer, Tool};
 use tool_io::{Lines, Shelf, Sink};

@@ -9,7 +9,7 @@ ghost use Rattle.board_text.specs.Boards.{CanBeFitted};
 ghost use Rattle.program_reports.specs.Checks.{IsCheckText};
 ghost use Rattle.program_reports.specs.Listings.{list_text};
 ghost use Rattle.code_plays.specs.Racks.{KeepsRack};
-ghost use Rattle.play_tool.specs.Answers.{IsDone, Compiles, Works, PlaysAction};
+ghost use Rattle.play_tool.specs.Answers.{IsDoneWith, Compiles, Works, PlaysAction};
 ghost use Rattle.play_tool.specs.FinalRacks.{HoldsFinal};
 
 use code_files::encode_code;
@@ -69,7 +69,7 @@ fn check_program<K: Sink>(
 ) -> Result<Status, NoAnswer>
     requires program { IsProgram program.now.text (trees_of program.now) }
     requires whole { IsWhole lines.old }
-    ensures { Says K.Sink (IsDone (IsCheckText program.now.text (trees_of program.now))) ⊥
+    ensures { Says K.Sink (IsDoneWith (IsCheckText program.now.text (trees_of program.now))) ⊥
         lines.old lines.new result }
 {
     let words = check_words(alloc, program.text(), program.statements())?;
@@ -80,7 +80,7 @@ fn check_program<K: Sink>(
 // Lists the notes of a program, and its actions with their procedures.
 fn list_program<K: Sink>(program: &Program, lines: &mut Lines<K>) -> Result<Status, NoAnswer>
     requires whole { IsWhole lines.old }
-    ensures { Says K.Sink (IsDone (λ text. text ≡ list_text (trees_of program.now))) ⊥
+    ensures { Says K.Sink (IsDoneWith (λ text. text ≡ list_text (trees_of program.now))) ⊥
         lines.old lines.new result }
 {
     put_list(lines, program.statements())?;

@@ -15,7 +15,7 @@ use base::ItemList;
 use code_plays::Task;
 use dev_card::Device;
 use named_files::{BoardNotRead, board_of, put_board_refusal, put_refusal};
-use play_words::{USUAL_TURNS, PlaceRun, PlayRequest, Status};
+use play_words::{PlaceRun, PlayRequest, Status, USUAL_TURNS};
 use soak_texts::soak_texts;
 use stapl_checker::{CheckRefused, check};
 use stapl_lexer::Name;

@@ -13,16 +13,16 @@ use Rattle.play_words.specs.declared.requests.PlayRequest.{PlayRequest}
 use Rattle.play_words.specs.declared.requests.FilePlay.{FilePlay}
 use Rattle.play_words.specs.declared.requests.Request.{Request}
 use Rattle.play_words.specs.declared.requests.Request.TheVariants as requests
-use Rattle.play_words.specs.Words.{HasMode, needs, Part, BoardIn, ProgramIn, CodeIn, ActionNamed, NamesAsked, NamesSkipped, PlaceAsked, TurnsAtMost, PinsWritten, DevicesReported, SeedGiven, key_of, IsGiven, GiveOf, IsKeyGiven, AskNames, names_given, names_missing, AskTurns, turns_given, turns_usual, AskAnswer, answer_given, answer_missing, AreRead, AskPlayRequest, GivePlay, mode_of, Give, IsRequest, file_play_of, Lack, lack_mode, lack_key, IsUsage, is_unread, is_missing}
+use Rattle.play_words.specs.Words.{HasMode, needs, Part, BoardIn, ProgramIn, CodeIn, ActionNamed, NamesAsked, NamesSkipped, PlaceAsked, TurnsAtMost, PinsWritten, DevicesReported, SeedGiven, key_of, IsPartGiven, GiveOf, IsKeyGiven, AskNames, names_given, names_missing, AskTurns, turns_given, turns_usual, AskAnswer, answer_given, answer_missing, AreAllRead, AskPlayRequest, GivePlay, mode_of, Give, IsRequest, file_play_of, Lack, lack_mode, lack_key, IsUsage, is_unread, is_missing}
 use Rattle.play_words.proofs.WordLemmas.{one_mode, one_given}
 
 -- the value of a part that is given, where a value is known by its part
-one_value : {A : Type 0} {words : List (List ℕ)} (part : A → Part) → ((x y : A) → part x ≡ part y → x ≡ y) → ((x y : A) → key_of (part x) ≡ key_of (part y)) → AreRead words →
-    (a b : A) → IsGiven words (part a) → IsGiven words (part b) → a ≡ b
+one_value : {A : Type 0} {words : List (List ℕ)} (part : A → Part) → ((x y : A) → part x ≡ part y → x ≡ y) → ((x y : A) → key_of (part x) ≡ key_of (part y)) → AreAllRead words →
+    (a b : A) → IsPartGiven words (part a) → IsPartGiven words (part b) → a ≡ b
 one_value {words = words} part known key read a b x y = known a b (one_given words (length words) (part a) (part b) read (key a b) x y)
 
 -- the same of a part that may be missing
-one_of : (words : List (List ℕ)) (key : WordKey) (a b : Option Part) → AreRead words → GiveOf words (length words) key a →
+one_of : (words : List (List ℕ)) (key : WordKey) (a b : Option Part) → AreAllRead words → GiveOf words (length words) key a →
     GiveOf words (length words) key b → a ≡ b
 one_of words key None None read x y = refl
 one_of words key None (Some q) read x y = absurd (x q y.0 y.1)
@@ -54,10 +54,10 @@ same_place x y e = cc
 same_seed : (x y : ℕ) → SeedGiven x ≡ SeedGiven y → x ≡ y
 same_seed x y e = cc
 
-one_count : (words : List (List ℕ)) (a b : ℕ) → AreRead words → IsGiven words (TurnsAtMost a) → IsGiven words (TurnsAtMost b) → a ≡ b
+one_count : (words : List (List ℕ)) (a b : ℕ) → AreAllRead words → IsPartGiven words (TurnsAtMost a) → IsPartGiven words (TurnsAtMost b) → a ≡ b
 one_count words a b read x y = let e = one_given words (length words) (TurnsAtMost a) (TurnsAtMost b) read refl x y in cc
 
-one_number : {words : List (List ℕ)} {a b : ℕ} → AreRead words → AskTurns words a → AskTurns words b → a ≡ b
+one_number : {words : List (List ℕ)} {a b : ℕ} → AreAllRead words → AskTurns words a → AskTurns words b → a ≡ b
 one_number {words = words} read (turns_given a x) (turns_given b y) = one_count words a b read x y
 one_number read (turns_given a x) (turns_usual none) = absurd (none a x)
 one_number read (turns_usual none) (turns_given b y) = absurd (none b y)
@@ -65,7 +65,7 @@ one_number read (turns_usual none) (turns_usual other) = refl
 
 -- a part with an answer, in which an answer is known by its part
 one_answer : {words : List (List ℕ)} {part : Bool → Part} {a b : Bool} → ((x y : Bool) → part x ≡ part y → x ≡ y) →
-    ((x y : Bool) → key_of (part x) ≡ key_of (part y)) → AreRead words → AskAnswer words part a → AskAnswer words part b → a ≡ b
+    ((x y : Bool) → key_of (part x) ≡ key_of (part y)) → AreAllRead words → AskAnswer words part a → AskAnswer words part b → a ≡ b
 one_answer {words = words} {part = part} same key read (answer_given a x) (answer_given b y) =
     same a b (one_given words (length words) (part a) (part b) read (key a b) x y)
 one_answer same key read (answer_given a x) (answer_missing none) = absurd (none a x)
@@ -80,7 +80,7 @@ same_report x y e = cc
 
 -- a part with a list of names, in which a list is known by its part
 one_list : {words : List (List ℕ)} {part : List (List ℕ) → Part} {a b : List (List ℕ)} → ((x y : List (List ℕ)) → part x ≡ part y → x ≡ y) →
-    ((x y : List (List ℕ)) → key_of (part x) ≡ key_of (part y)) → AreRead words → AskNames words part a → AskNames words part b → a ≡ b
+    ((x y : List (List ℕ)) → key_of (part x) ≡ key_of (part y)) → AreAllRead words → AskNames words part a → AskNames words part b → a ≡ b
 one_list {words = words} {part = part} same key read (names_given a x) (names_given b y) =
     same a b (one_given words (length words) (part a) (part b) read (key a b) x y)
 one_list same key read (names_given a x) (names_missing none) = absurd (none a x)
@@ -104,7 +104,7 @@ same_play_parts : {b c s r : List ℕ} {p q : PlayRequest} → b ≡ c → s ≡
     ◌≡◌ {A = FilePlay} (record { board = b; source = s; request = p }) (record { board = c; source = r; request = q })
 same_play_parts i j k = cc
 
-one_play_request : {words : List (List ℕ)} (a b : PlayRequest) → AreRead words → AskPlayRequest words a → AskPlayRequest words b → a ≡ b
+one_play_request : {words : List (List ℕ)} (a b : PlayRequest) → AreAllRead words → AskPlayRequest words a → AskPlayRequest words b → a ≡ b
 one_play_request {words = words} a b read x y =
     same_asked_parts (one_value ActionNamed same_action (λ p q. refl) read a.action b.action x.action_named y.action_named)
     (one_list same_asked (λ p q. refl) read x.todo_asked y.todo_asked)
@@ -115,16 +115,16 @@ one_play_request {words = words} a b read x y =
     (one_answer same_report (λ p q. refl) read x.report_asked y.report_asked)
 
 one_play : {words : List (List ℕ)} (part : List ℕ → Part) → ((x y : List ℕ) → part x ≡ part y → x ≡ y) → ((x y : List ℕ) → key_of (part x) ≡ key_of (part y)) → (a b : FilePlay) →
-    AreRead words → GivePlay words part a → GivePlay words part b → a ≡ b
+    AreAllRead words → GivePlay words part a → GivePlay words part b → a ≡ b
 one_play part known key a b read x y =
     same_play_parts (one_value BoardIn same_board (λ p q. refl) read a.board b.board x.board_given y.board_given)
     (one_value part known key read a.source b.source x.source_given y.source_given)
     (one_play_request a.request b.request read x.asked y.asked)
 
-one_program : {words : List (List ℕ)} (a b : List ℕ) → AreRead words → IsGiven words (ProgramIn a) → IsGiven words (ProgramIn b) → a ≡ b
+one_program : {words : List (List ℕ)} (a b : List ℕ) → AreAllRead words → IsPartGiven words (ProgramIn a) → IsPartGiven words (ProgramIn b) → a ≡ b
 one_program a b read x y = one_value ProgramIn same_program (λ p q. refl) read a b x y
 
-same_request : {words : List (List ℕ)} (a b : Request) → AreRead words → mode_of a ≡ mode_of b → Give words a → Give words b → a ≡ b
+same_request : {words : List (List ℕ)} (a b : Request) → AreAllRead words → mode_of a ≡ mode_of b → Give words a → Give words b → a ≡ b
 same_request (requests.Play p) (requests.Play q) read e x y = ap requests.Play (one_play ProgramIn same_program (λ p q. refl) p q read x y)
 same_request (requests.Run p) (requests.Run q) read e x y = ap requests.Run (one_play CodeIn same_code (λ p q. refl) p q read x y)
 same_request (requests.Check p) (requests.Check q) read e x y = ap requests.Check (one_program p q read x y)
@@ -155,7 +155,7 @@ no_word modes.Run e = cc
 no_word modes.Soak e = cc
 
 -- a request gives each key that its mode needs
-is_key : {words : List (List ℕ)} (part : Part) → IsGiven words part → IsKeyGiven words (key_of part)
+is_key : {words : List (List ℕ)} (part : Part) → IsPartGiven words part → IsKeyGiven words (key_of part)
 is_key part given = record { part = part; of_key = refl; given = given }
 
 needed_given : {words : List (List ℕ)} (request : Request) (key : WordKey) → Give words request → needs (mode_of request) key ≡ true → IsKeyGiven words key

@@ -17,8 +17,8 @@ use Rattle.play_words.specs.declared.requests.PlayRequest.{PlayRequest}
 use Rattle.play_words.specs.declared.requests.FilePlay.{FilePlay}
 use Rattle.play_words.specs.declared.requests.Request.{Request}
 use Rattle.play_words.specs.declared.requests.Request.TheVariants as requests
-use Rattle.play_words.specs.Words.{mode_word, takes, needs, Part, BoardIn, ProgramIn, CodeIn, ActionNamed, NamesAsked, NamesSkipped, PlaceAsked, TurnsAtMost, PinsWritten, DevicesReported, SeedGiven, key_of, most_turns, most_seed, GivesPart, word_at, HasMode, IsGivenBefore, GivesNew, IsRead, AreReadBefore, IsGiven, IsKeyGiven, GiveOf, AskNames, names_given, names_missing, AskTurns, turns_given, turns_usual, AskAnswer, answer_given, answer_missing, AskPlayRequest, GivePlay, mode_of, Give, IsRequest, lack_mode, lack_key, IsFirstUnread, IsUsage, is_unread, is_missing}
-use Rattle.play_words.specs.ReadParts.{Values, given_of, with_part, Adds, Refuses, not_taken, given_already, GivesNoPart, AddsWord, AddsNothing, one_if_some, count_of, AreReadUpTo, LacksKey, turns_or_usual, answer_or_no, HasPlayValues, HasFileValues, LacksPlay, no_board, no_source, no_action, HasValues}
+use Rattle.play_words.specs.Words.{mode_word, takes, needs, Part, BoardIn, ProgramIn, CodeIn, ActionNamed, NamesAsked, NamesSkipped, PlaceAsked, TurnsAtMost, PinsWritten, DevicesReported, SeedGiven, key_of, most_turns, most_seed, GivesPart, word_at, HasMode, IsGivenBefore, GivesNew, IsWordRead, AreReadBefore, IsPartGiven, IsKeyGiven, GiveOf, AskNames, names_given, names_missing, AskTurns, turns_given, turns_usual, AskAnswer, answer_given, answer_missing, AskPlayRequest, GivePlay, mode_of, Give, IsRequest, lack_mode, lack_key, IsFirstUnread, IsUsage, is_unread, is_missing}
+use Rattle.play_words.specs.ReadParts.{Values, given_of, with_part, AddsPart, Refuses, not_taken, given_already, GivesNoPart, AddsWord, AddsNothing, one_if_some, count_of, AreReadUpTo, LacksKey, turns_or_usual, answer_or_no, HasPlayValues, HasFileValues, LacksPlay, no_board, no_source, no_action, HasValues}
 
 -- A word gives at most one part.
 
@@ -72,7 +72,7 @@ one_part word a b x y = let e = has_letters word a x in let f = has_letters word
 
 -- What a word adds.
 
-pub adds_part : {word : List ℕ} {old new : Values} (part : Part) → GivesPart word part → Adds old part new → AddsWord old word new
+pub adds_part : {word : List ℕ} {old new : Values} (part : Part) → GivesPart word part → AddsPart old part new → AddsWord old word new
 adds_part part gives adds = record { part = part; gives = gives; adds = adds }
 
 pub adds_refused : {word : List ℕ} {values : Values} (part : Part) → GivesPart word part → Refuses values part → AddsNothing values word
@@ -115,7 +115,7 @@ none_given (Some x) e = absurd cc
 
 pub adds_where_free : {values new : Values} (part : Part) (key : WordKey) → key ≡ key_of part → takes values.mode key ≡ true →
     is_some (given_of values key) ≡ false →
-    new ≡ with_part values part → Adds values part new
+    new ≡ with_part values part → AddsPart values part new
 adds_where_free {values = values} part key e taken free added = record {
   taken = ap (takes values.mode) (sym e) ∙ taken;
   free = none_given _ (ap (λ (k : WordKey). is_some (given_of values k)) (sym e) ∙ free);
@@ -161,12 +161,12 @@ one_mode words a b x y = same_word a b (sym x ∙ y)
 
 -- Read words give at most one part of each key.
 
-new_after : (words : List (List ℕ)) (place : ℕ) → 0 < place → IsRead words place → (mode : Mode) × HasMode words mode × GivesNew mode words place
+new_after : (words : List (List ℕ)) (place : ℕ) → 0 < place → IsWordRead words place → (mode : Mode) × HasMode words mode × GivesNew mode words place
 new_after words zero after read = absurd (omega arith)
 new_after words (suc place) after read = read
 
 -- not where one of them stands before the other
-not_before : (words : List (List ℕ)) (p q : Part) (n : ℕ) (place : ℕ) → key_of p ≡ key_of q → IsGivenBefore words place p → 0 < place → IsRead words place →
+not_before : (words : List (List ℕ)) (p q : Part) (n : ℕ) (place : ℕ) → key_of p ≡ key_of q → IsGivenBefore words place p → 0 < place → IsWordRead words place →
     GivesPart (word_at words place) q → ⊥
 not_before words p q n place same earlier after read gives =
     let r = (new_after words place after read).2 in
@@ -270,15 +270,15 @@ counted values (TurnsAtMost n) e = let none = none_back TurnsAtMost values.turns
 counted values (PinsWritten written) e = let none = none_back PinsWritten values.pins e in omega arith
 counted values (DevicesReported reported) e = let none = none_back DevicesReported values.report e in omega arith
 
-read_new : (words : List (List ℕ)) (mode : Mode) (place : ℕ) → 0 < place → HasMode words mode → GivesNew mode words place → IsRead words place
+read_new : (words : List (List ℕ)) (mode : Mode) (place : ℕ) → 0 < place → HasMode words mode → GivesNew mode words place → IsWordRead words place
 read_new words mode zero after has new = absurd (omega arith)
 read_new words mode (suc place) after has new = (mode, has, new)
 
-read_more : (words : List (List ℕ)) (n : ℕ) → AreReadBefore words n → IsRead words n → AreReadBefore words (n + 1)
+read_more : (words : List (List ℕ)) (n : ℕ) → AreReadBefore words n → IsWordRead words n → AreReadBefore words (n + 1)
 read_more words n before here place lt =
     elim (cases_lt place n) [
       | inl below ↦ before place below
-      | inr ge ↦ let at : n ≡ place = omega arith in subst (IsRead words) at here
+      | inr ge ↦ let at : n ≡ place = omega arith in subst (IsWordRead words) at here
     ]
 
 new_part : (words : List (List ℕ)) (n : ℕ) (part : Part) (values : Values) → GiveOf words n (key_of part) (given_of values (key_of part)) →
@@ -301,7 +301,7 @@ same_mode values (PinsWritten written) = refl
 same_mode values (DevicesReported reported) = refl
 
 one_part_more : (words : List (List ℕ)) (n : ℕ) (part : Part) (old new : Values) → 0 < n → AreReadUpTo words n old →
-    GivesPart (word_at words n) part → Adds old part new →
+    GivesPart (word_at words n) part → AddsPart old part new →
     AreReadUpTo words (n + 1) new
 one_part_more words n part old new after r gives adds = record {
   mode = subst (HasMode words) (sym (ap (λ (v : Values). v.mode) adds.added ∙ same_mode old part)) r.mode;
@@ -348,7 +348,7 @@ few_read {values = values} r =
 
 -- The first word that is not read.
 
-unread_after : (words : List (List ℕ)) (mode : Mode) (place : ℕ) → 0 < place → HasMode words mode → (GivesNew mode words place → ⊥) → IsRead words place → ⊥
+unread_after : (words : List (List ℕ)) (mode : Mode) (place : ℕ) → 0 < place → HasMode words mode → (GivesNew mode words place → ⊥) → IsWordRead words place → ⊥
 unread_after words mode place after has none read =
     let r = new_after words place after read in
     none (subst (λ (m : Mode). GivesNew m words place) (one_mode words r.0 mode r.1 has) r.2)
@@ -394,9 +394,9 @@ key_missing words key (Some part) give e g = cc
 
 -- a value that is given, by the part that it makes
 given_value : {A : Type 0} {words : List (List ℕ)} (key : WordKey) (part : A → Part) (found : Option A) (x : A) → GiveOf words (length words) key (option_map part found) →
-    found ≡ Some x → IsGiven words (part x)
+    found ≡ Some x → IsPartGiven words (part x)
 given_value key part None x give e = absurd cc
-given_value {words = words} key part (Some y) x give e = subst (λ (z : _). IsGiven words (part z)) (same_Some y x e) give.1
+given_value {words = words} key part (Some y) x give e = subst (λ (z : _). IsPartGiven words (part z)) (same_Some y x e) give.1
 
 ask_read : {words : List (List ℕ)} {request : PlayRequest} (values : Values) → AreReadUpTo words (length words) values → HasPlayValues values request → AskPlayRequest words request
 ask_read {words = words} {request = request} values r h = record {
@@ -418,7 +418,7 @@ play_read key part path {play = play} values r give h = record {
   asked = ask_read values r h.asked;
 }
 
-program_read : {words : List (List ℕ)} {path : List ℕ} (values : Values) → AreReadUpTo words (length words) values → values.program ≡ Some path → IsGiven words (ProgramIn path)
+program_read : {words : List (List ℕ)} {path : List ℕ} (values : Values) → AreReadUpTo words (length words) values → values.program ≡ Some path → IsPartGiven words (ProgramIn path)
 program_read {path = path} values r e = given_value Program ProgramIn values.program path (r.give Program) e
 
 gives_read : {words : List (List ℕ)} (request : Request) (values : Values) → AreReadUpTo words (length words) values → HasValues values request →
@@ -462,7 +462,7 @@ key_lacks {words = words} values r l =
 
 -- Words that do not begin with a mode.
 
-no_mode_read : (words : List (List ℕ)) → ((mode : Mode) → HasMode words mode → ⊥) → IsRead words 0 → ⊥
+no_mode_read : (words : List (List ℕ)) → ((mode : Mode) → HasMode words mode → ⊥) → IsWordRead words 0 → ⊥
 no_mode_read words none read = none read.0 read.1
 
 pub no_mode : (words : List (List ℕ)) → ((mode : Mode) → HasMode words mode → ⊥) → IsUsage words 1

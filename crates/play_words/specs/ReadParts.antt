@@ -94,7 +94,7 @@ abbrev pub is_open : Values → Part → Bool
 is_open values part = takes values.mode (key_of part) && not (is_some (given_of values (key_of part)))
 
 -- a part more, whose key the mode takes and which was free
-pub record Adds (old : Values) (part : Part) (new : Values) : Type 0 where
+pub record AddsPart (old : Values) (part : Part) (new : Values) : Type 0 where
   pub taken : takes old.mode (key_of part) ≡ true
   pub free : given_of old (key_of part) ≡ None
   pub added : new ≡ with_part old part
@@ -112,7 +112,7 @@ pub record GivesNoPart (word : List ℕ) : Type 0 where
 pub record AddsWord (old : Values) (word : List ℕ) (new : Values) : Type 0 where
   pub part : Part
   pub gives : GivesPart word part
-  pub adds : Adds old part new
+  pub adds : AddsPart old part new
 
 -- The word gives no part that is added.
 pub record AddsNothing (values : Values) (word : List ℕ) : Type 0 where

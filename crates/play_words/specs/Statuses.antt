@@ -19,20 +19,20 @@ IsFault BadPlace = ⊥
 IsFault (Usage n) = ⊥
 
 -- the status of a play that was played, to its ending or for all its turns
-abbrev pub IsPlayed : Status → Type 0
-IsPlayed (Done code) = Unit {0}
-IsPlayed (Fault k piece) = Unit {0}
-IsPlayed Spent = Unit {0}
-IsPlayed (Refused piece reason) = ⊥
-IsPlayed (BoardRefused line reason) = ⊥
-IsPlayed (CodeRefused offset reason) = ⊥
-IsPlayed NoAction = ⊥
-IsPlayed BadChoice = ⊥
-IsPlayed BadPlace = ⊥
-IsPlayed (Usage n) = ⊥
-IsPlayed ReadFault = ⊥
-IsPlayed WriteFault = ⊥
-IsPlayed Memory = ⊥
+abbrev pub IsOfPlay : Status → Type 0
+IsOfPlay (Done code) = Unit {0}
+IsOfPlay (Fault k piece) = Unit {0}
+IsOfPlay Spent = Unit {0}
+IsOfPlay (Refused piece reason) = ⊥
+IsOfPlay (BoardRefused line reason) = ⊥
+IsOfPlay (CodeRefused offset reason) = ⊥
+IsOfPlay NoAction = ⊥
+IsOfPlay BadChoice = ⊥
+IsOfPlay BadPlace = ⊥
+IsOfPlay (Usage n) = ⊥
+IsOfPlay ReadFault = ⊥
+IsOfPlay WriteFault = ⊥
+IsOfPlay Memory = ⊥
 
 -- The status has a cause that comes before the board is fitted into the rack. Of want of memory and of a write fault
 -- the status does not say when it came.

@@ -140,26 +140,26 @@ pub record GivesNew (mode : Mode) (words : List (List ℕ)) (place : ℕ) : Type
 
 -- The word at a place is read: the first one is that of a mode, and each other one gives a new part of a request of
 -- that mode.
-abbrev pub IsRead : List (List ℕ) → ℕ → Type 0
-IsRead words zero = (mode : Mode) × HasMode words mode
-IsRead words (suc place) = (mode : Mode) × HasMode words mode × GivesNew mode words (suc place)
+abbrev pub IsWordRead : List (List ℕ) → ℕ → Type 0
+IsWordRead words zero = (mode : Mode) × HasMode words mode
+IsWordRead words (suc place) = (mode : Mode) × HasMode words mode × GivesNew mode words (suc place)
 
 -- each of the first n words is read
 abbrev pub AreReadBefore : List (List ℕ) → ℕ → Type 0
-AreReadBefore words n = (place : ℕ) → place < n → IsRead words place
+AreReadBefore words n = (place : ℕ) → place < n → IsWordRead words place
 
-abbrev pub AreRead : List (List ℕ) → Type 0
-AreRead words = AreReadBefore words (length words)
+abbrev pub AreAllRead : List (List ℕ) → Type 0
+AreAllRead words = AreReadBefore words (length words)
 
 -- one of the words gives this part
-abbrev pub IsGiven : List (List ℕ) → Part → Type 0
-IsGiven words part = IsGivenBefore words (length words) part
+abbrev pub IsPartGiven : List (List ℕ) → Part → Type 0
+IsPartGiven words part = IsGivenBefore words (length words) part
 
 -- one of the words gives a part of this key
 pub record IsKeyGiven (words : List (List ℕ)) (key : WordKey) : Type 0 where
   pub part : Part
   pub of_key : key_of part ≡ key
-  pub given : IsGiven words part
+  pub given : IsPartGiven words part
 
 -- one of the first n words gives this part of a key, or none of them gives one
 abbrev pub GiveOf : List (List ℕ) → ℕ → WordKey → Option Part → Type 0
@@ -168,22 +168,22 @@ GiveOf words n key (Some part) = (key_of part ≡ key) × IsGivenBefore words n 
 
 -- The words ask for so many turns, or they ask for none, and it is the usual number.
 pub data AskTurns (words : List (List ℕ)) : ℕ → Type 0 where
-  turns_given : (n : ℕ) → IsGiven words (TurnsAtMost n) → AskTurns words n
-  turns_usual : ((n : ℕ) → IsGiven words (TurnsAtMost n) → ⊥) → AskTurns words usual_turns
+  turns_given : (n : ℕ) → IsPartGiven words (TurnsAtMost n) → AskTurns words n
+  turns_usual : ((n : ℕ) → IsPartGiven words (TurnsAtMost n) → ⊥) → AskTurns words usual_turns
 
 -- The words give a yes or a no, as a part of this form, or they give none, and it is a no.
 pub data AskAnswer (words : List (List ℕ)) (part : Bool → Part) : Bool → Type 0 where
-  answer_given : (answer : Bool) → IsGiven words (part answer) → AskAnswer words part answer
-  answer_missing : ((answer : Bool) → IsGiven words (part answer) → ⊥) → AskAnswer words part false
+  answer_given : (answer : Bool) → IsPartGiven words (part answer) → AskAnswer words part answer
+  answer_missing : ((answer : Bool) → IsPartGiven words (part answer) → ⊥) → AskAnswer words part false
 
 -- The words give these names, as a part of this form, or they give none.
 pub data AskNames (words : List (List ℕ)) (part : List (List ℕ) → Part) : List (List ℕ) → Type 0 where
-  names_given : (names : List (List ℕ)) → IsGiven words (part names) → AskNames words part names
-  names_missing : ((names : List (List ℕ)) → IsGiven words (part names) → ⊥) → AskNames words part []
+  names_given : (names : List (List ℕ)) → IsPartGiven words (part names) → AskNames words part names
+  names_missing : ((names : List (List ℕ)) → IsPartGiven words (part names) → ⊥) → AskNames words part []
 
 -- The words ask for this of a play.
 pub record AskPlayRequest (words : List (List ℕ)) (request : PlayRequest) : Type 0 where
-  pub action_named : IsGiven words (ActionNamed request.action)
+  pub action_named : IsPartGiven words (ActionNamed request.action)
   pub todo_asked : AskNames words NamesAsked request.todo
   pub skip_asked : AskNames words NamesSkipped request.skip
   pub place_asked : GiveOf words (length words) Place (option_map PlaceAsked request.place)
@@ -193,8 +193,8 @@ pub record AskPlayRequest (words : List (List ℕ)) (request : PlayRequest) : Ty
 
 -- The words name the board of a play, and by this part the file of what is played, and ask for this of it.
 pub record GivePlay (words : List (List ℕ)) (part : List ℕ → Part) (play : FilePlay) : Type 0 where
-  pub board_given : IsGiven words (BoardIn play.board)
-  pub source_given : IsGiven words (part play.source)
+  pub board_given : IsPartGiven words (BoardIn play.board)
+  pub source_given : IsPartGiven words (part play.source)
   pub asked : AskPlayRequest words play.request
 
 -- the mode of a request
@@ -210,14 +210,14 @@ mode_of (requests.Soak seed) = modes.Soak
 abbrev pub Give : List (List ℕ) → Request → Type 0
 Give words (requests.Play play) = GivePlay words ProgramIn play
 Give words (requests.Run play) = GivePlay words CodeIn play
-Give words (requests.Check path) = IsGiven words (ProgramIn path)
-Give words (requests.List path) = IsGiven words (ProgramIn path)
-Give words (requests.Compile path) = IsGiven words (ProgramIn path)
-Give words (requests.Soak seed) = IsGiven words (SeedGiven seed)
+Give words (requests.Check path) = IsPartGiven words (ProgramIn path)
+Give words (requests.List path) = IsPartGiven words (ProgramIn path)
+Give words (requests.Compile path) = IsPartGiven words (ProgramIn path)
+Give words (requests.Soak seed) = IsPartGiven words (SeedGiven seed)
 
 -- The words ask for this: the first of them is its mode, each is read, and they give what it has.
 pub record IsRequest (words : List (List ℕ)) (request : Request) : Type 0 where
-  pub read : AreRead words
+  pub read : AreAllRead words
   pub mode : HasMode words (mode_of request)
   pub gives : Give words request
 
@@ -258,13 +258,13 @@ pub data Lack (words : List (List ℕ)) : Type 0 where
 pub record IsFirstUnread (words : List (List ℕ)) (place : ℕ) : Type 0 where
   pub within : place < length words
   pub before : AreReadBefore words place
-  pub unread : IsRead words place → ⊥
+  pub unread : IsWordRead words place → ⊥
 
 -- The first word, counted from 1, that is not read; or, where all words are read and the mode or a needed key is
 -- missing, the number of words plus 1.
 pub data IsUsage (words : List (List ℕ)) : ℕ → Type 0 where
   is_unread : (place : ℕ) → IsFirstUnread words place → IsUsage words (place + 1)
-  is_missing : AreRead words → Lack words → IsUsage words (length words + 1)
+  is_missing : AreAllRead words → Lack words → IsUsage words (length words + 1)
 
 -- why words are refused; want of memory needs no cause
 abbrev pub IsWordsRefused : List (List ℕ) → WordsRefused → Type 0

@@ -2,7 +2,7 @@
 ghost use Rattle.std.specs.Prelude.{◌≡◌, ◌≢◌, ◌≤◌, ◌<◌, ◌+◌, ℕ, Bool, List, length, map, codes, string_bytes, is_some, None, IfSome, IfNone, IfOk, IfErr, OnOk};
 ghost use Rattle.std.specs.Option.{option_map};
 ghost use Rattle.play_words.specs.Words.{mode_word, key_of, GivesPart, HasMode, IsRequest, IsFirstUnread, IsWordsRefused};
-ghost use Rattle.play_words.specs.ReadParts.{values_of, given_of, with_part, part_of, GivesNoPart, Adds, Refuses, AddsWord, AddsNothing, AreReadUpTo, LacksKey, HasPlayValues, HasFileValues, LacksPlay, HasValues};
+ghost use Rattle.play_words.specs.ReadParts.{values_of, given_of, with_part, part_of, GivesNoPart, AddsPart, Refuses, AddsWord, AddsNothing, AreReadUpTo, LacksKey, HasPlayValues, HasFileValues, LacksPlay, HasValues};
 ghost use Rattle.play_words.specs.declared.mode.Mode.{Mode};
 
 use crate::mode::WordKey;
@@ -172,7 +172,7 @@ impl<'a> Given<'a> {
     // What is given with one part more; `None` where the mode does not take its key, or that has been given.
     #[tactic(auto, using(crate::proofs::WordLemmas::refuses_key))]
     fn add(&self, part: &GivenPart<'a>) -> Option<Given<'a>>
-        ensures some { IfSome result (λ next. Adds (values_of self.now) (part_of part.now) (values_of next)) }
+        ensures some { IfSome result (λ next. AddsPart (values_of self.now) (part_of part.now) (values_of next)) }
         ensures none { IfNone result (Refuses (values_of self.now) (part_of part.now)) }
     {
         let key = part.key();

@@ -22,16 +22,16 @@ use Rattle.stapl_meaning.specs.Plays.{start, beginning, reset_inputs, reset_even
 use Rattle.padded_plays.specs.QuietPlays.{deeds_of_turn, deeds_of_run, deeds_of_play}
 use Rattle.written_cable.specs.Signals.{signals_of}
 use Rattle.written_cable.proofs.SignalLemmas.{signals_both}
-use Rattle.quiet_watch.specs.Watches.{marks, Watched, watch_tdo, watch_step, watch_after, watch_answers, Follows}
+use Rattle.quiet_watch.specs.Watches.{marks, Watched, watch_tdo, watch_step, watch_after, watch_answers, WatchFollows}
 use Rattle.quiet_watch.specs.HeardPlays.{new_watch, first_watch, marked_chain, HearsDeeds, HearsPlay}
 
 -- signals in two parts
 pub record FollowsBoth (w : Watched) (xs ys : List Signal) (v : Watched) : Type 0 where
   pub between : Watched
-  pub front : Follows w xs between
-  pub back : Follows between ys v
+  pub front : WatchFollows w xs between
+  pub back : WatchFollows between ys v
 
-pub follows_split : (xs ys : List Signal) (w v : Watched) → Follows w (xs ++ ys) v → FollowsBoth w xs ys v
+pub follows_split : (xs ys : List Signal) (w v : Watched) → WatchFollows w (xs ++ ys) v → FollowsBoth w xs ys v
 follows_split [] ys w v f = record { between = w; front = refl; back = f }
 follows_split (Pulses k ∷ xs) ys w v f =
     let r = follows_split xs ys (watch_step w k.tms k.tdi) v f.1 in
@@ -44,7 +44,7 @@ pub record HasHeard (w : Watched) (bs : List Bool) (is : List Input) (v : Watche
   pub after : v ≡ watch_after w is
   pub answers : tdos (heard_clocks bs is) ≡ watch_answers w is
 
-pub heard : (is : List Input) (bs : List Bool) (w v : Watched) → Follows w (signals_of (pulses (heard_clocks bs is))) v → HasHeard w bs is v
+pub heard : (is : List Input) (bs : List Bool) (w v : Watched) → WatchFollows w (signals_of (pulses (heard_clocks bs is))) v → HasHeard w bs is v
 heard [] bs w v f = record { after = f; answers = refl }
 heard (i ∷ is) bs w v f =
     let r = heard is (then_heard bs) (watch_step w i.tms i.tdi) v f.1 in
@@ -54,24 +54,24 @@ heard (i ∷ is) bs w v f =
     }
 
 -- what is said is no clock, and a watch stays as it is
-said : (event : Event) (w v : Watched) → is_no_clock event ≡ true → Follows w (signals_of (event ∷ [])) v → v ≡ w
+said : (event : Event) (w v : Watched) → is_no_clock event ≡ true → WatchFollows w (signals_of (event ∷ [])) v → v ≡ w
 said (Print text) w v e f = f
 said (Export key value) w v e f = f
 said (Clock tms tdi tdo) w v e f = absurd (false≢true e)
 said (Usec n) w v e f = f
 said (Hertz n) w v e f = f
 
-split_events : (xs ys : List Event) (w v : Watched) → Follows w (signals_of (xs ++ ys)) v → FollowsBoth w (signals_of xs) (signals_of ys) v
-split_events xs ys w v f = follows_split (signals_of xs) (signals_of ys) w v (subst (λ (s : List Signal). Follows w s v) (signals_both xs ys) f)
+split_events : (xs ys : List Event) (w v : Watched) → WatchFollows w (signals_of (xs ++ ys)) v → FollowsBoth w (signals_of xs) (signals_of ys) v
+split_events xs ys w v f = follows_split (signals_of xs) (signals_of ys) w v (subst (λ (s : List Signal). WatchFollows w s v) (signals_both xs ys) f)
 
-pub hears_deeds : (deeds : List Deed) (at : Tap) (bs : List Bool) (w v : Watched) → SayNoClock deeds → Follows w (signals_of (deeds_events (marked_chain at bs) deeds)) v →
+pub hears_deeds : (deeds : List Deed) (at : Tap) (bs : List Bool) (w v : Watched) → SayNoClock deeds → WatchFollows w (signals_of (deeds_events (marked_chain at bs) deeds)) v →
     HearsDeeds w at bs deeds v
 hears_deeds [] at bs w v says f = f
 hears_deeds (Says event ∷ deeds) at bs w v says f =
     let both = split_events (event ∷ []) (deeds_events (marked_chain at bs) deeds) w v f in (
       refl,
       hears_deeds deeds at bs w v says.1
-          (subst (λ (u : Watched). Follows u (signals_of (deeds_events (marked_chain at bs) deeds)) v) (said event w both.between says.0 both.front) both.back),
+          (subst (λ (u : Watched). WatchFollows u (signals_of (deeds_events (marked_chain at bs) deeds)) v) (said event w both.between says.0 both.front) both.back),
     )
 hears_deeds (Goes to ∷ deeds) at bs w v says f =
     let is : List Input = move_inputs at to in
@@ -80,7 +80,7 @@ hears_deeds (Goes to ∷ deeds) at bs w v says f =
     let h = heard is bs w both.between both.front in (
       h.answers,
       hears_deeds deeds to rest (watch_after w is) v says
-          (subst (λ (u : Watched). Follows u (signals_of (deeds_events (marked_chain to rest) deeds)) v) h.after both.back),
+          (subst (λ (u : Watched). WatchFollows u (signals_of (deeds_events (marked_chain to rest) deeds)) v) h.after both.back),
     )
 hears_deeds (Stays n ∷ deeds) at bs w v says f =
     let is : List Input = stay_inputs at n in
@@ -89,7 +89,7 @@ hears_deeds (Stays n ∷ deeds) at bs w v says f =
     let h = heard is bs w both.between both.front in (
       h.answers,
       hears_deeds deeds at rest (watch_after w is) v says
-          (subst (λ (u : Watched). Follows u (signals_of (deeds_events (marked_chain at rest) deeds)) v) h.after both.back),
+          (subst (λ (u : Watched). WatchFollows u (signals_of (deeds_events (marked_chain at rest) deeds)) v) h.after both.back),
     )
 hears_deeds (Scans scan ∷ deeds) at bs w v says f =
     let is : List Input = inputs_of_scan at (based marks scan) in
@@ -98,7 +98,7 @@ hears_deeds (Scans scan ∷ deeds) at bs w v says f =
     let h = heard is bs w both.between both.front in (
       h.answers,
       hears_deeds deeds scan.stop rest (watch_after w is) v says
-          (subst (λ (u : Watched). Follows u (signals_of (deeds_events (marked_chain scan.stop rest) deeds)) v) h.after both.back),
+          (subst (λ (u : Watched). WatchFollows u (signals_of (deeds_events (marked_chain scan.stop rest) deeds)) v) h.after both.back),
     )
 
 -- ---- the deeds of a play say no clock
@@ -138,7 +138,7 @@ say_play program chosen n k =
 
 -- a play from the first clocks on, over a watch over new devices
 pub hears_play : (program : Played) (chosen : List ℕ) (n : ℕ) (run : List Desc) (bs : List Bool) (v : Watched) →
-    Follows (new_watch run) (signals_of (reset_events (Heard bs)
+    WatchFollows (new_watch run) (signals_of (reset_events (Heard bs)
     ++ deeds_events (marked_chain Reset (heard_after bs reset_inputs)) (deeds_of_play program chosen n (marked_chain Reset (heard_after bs reset_inputs))))) v →
     HearsPlay program chosen n run (heard_after bs reset_inputs) v
 hears_play program chosen n run bs v f =
@@ -147,4 +147,4 @@ hears_play program chosen n run bs v f =
     let both = split_events (reset_events (Heard bs)) (deeds_events (marked_chain Reset rest) deeds) (new_watch run) v f in
     let h = heard reset_inputs bs (new_watch run) both.between both.front in
     hears_deeds deeds Reset rest (first_watch run) v (say_play program chosen n (marked_chain Reset rest))
-    (subst (λ (u : Watched). Follows u (signals_of (deeds_events (marked_chain Reset rest) deeds)) v) h.after both.back)
+    (subst (λ (u : Watched). WatchFollows u (signals_of (deeds_events (marked_chain Reset rest) deeds)) v) h.after both.back)

@@ -27,14 +27,14 @@ use Rattle.padded_plays.proofs.QuietTurns.{events_of_play}
 use Rattle.padded_plays.specs.declared.unquiet.Unquiet.{Unquiet}
 use Rattle.padded_plays.specs.FirstDeeds.{at_the_beginning, in_a_turn}
 use Rattle.padded_plays.proofs.Firsts.{GoesOn, goes_on_if}
-use Rattle.quiet_watch.specs.Watches.{marks, Watched, Follows, seen_by}
+use Rattle.quiet_watch.specs.Watches.{marks, Watched, WatchFollows, seen_by}
 use Rattle.quiet_watch.specs.HeardPlays.{marked_chain, new_watch, HasSeenPlay}
 use Rattle.quiet_watch.specs.declared.watch.Watch.{Watch}
 use Rattle.quiet_watch.specs.WatchedDevices.{untold, watched_of, HasFollowed}
 use Rattle.quiet_watch.proofs.WatchedPlays.{has_seen}
 use Rattle.quiet_runs.specs.declared.judging.Judged.{Judged}
 use Rattle.quiet_runs.specs.WatchedPlays.{HasWatchedPlay}
-use Rattle.quiet_runs.specs.Verdicts.{IsJudged, IsUnquietAt, IsBetween}
+use Rattle.quiet_runs.specs.Verdicts.{IsJudgedPlay, IsUnquietAt, IsBetween}
 use Rattle.quiet_runs.proofs.HeardFollows.{hears_play}
 
 -- a play over a watch, of which this run is told
@@ -77,11 +77,11 @@ module _ {D : Type 0} (fitted : D → Option SoundCard) (kind_of : D → Kind) (
       let events = events_are program code is chosen n p.answers in
       has_seen program chosen n run (heard_after p.answers reset_inputs) (watched_of fitted kind_of new)
       (hears_play program chosen n run p.answers (watched_of fitted kind_of new)
-      (subst (λ (es : List Event). Follows (new_watch run) (signals_of es) (watched_of fitted kind_of new)) events
-      (subst (λ (w : Watched). Follows w (signals_of (whole_play code chosen n marks (Heard p.answers)).events) (watched_of fitted kind_of new)) first p.follows.follows)))
+      (subst (λ (es : List Event). WatchFollows (new_watch run) (signals_of es) (watched_of fitted kind_of new)) events
+      (subst (λ (w : Watched). WatchFollows w (signals_of (whole_play code chosen n marks (Heard p.answers)).events) (watched_of fitted kind_of new)) first p.follows.follows)))
 
   pub judges : (unquiet : Option Unquiet) → unquiet ≡ seen_by (watched_of fitted kind_of new) → (program : Played) → IsCodeOf program code →
-      IsJudged program chosen n run (record { ending = ending; unquiet = unquiet })
+      IsJudgedPlay program chosen n run (record { ending = ending; unquiet = unquiet })
   judges unquiet e program is =
       let s = seen program is in
       record {
@@ -107,11 +107,11 @@ first_at program chosen n run low (suc h) why b above below within = by b.quiet
 
 -- a play that was judged for a number between
 pub lower_high : (program : Played) (chosen : List ℕ) (run : List Desc) (low high middle : ℕ) (why found : Unquiet) (judged : Judged) →
-    IsBetween program chosen run low high why → IsJudged program chosen middle run judged → judged.unquiet ≡ Some found → IsBetween program chosen run low middle found
+    IsBetween program chosen run low high why → IsJudgedPlay program chosen middle run judged → judged.unquiet ≡ Some found → IsBetween program chosen run low middle found
 lower_high program chosen run low high middle why found judged b j e = record { unquiet = j.unquiet found e; quiet = b.quiet }
 
 pub higher_low : (program : Played) (chosen : List ℕ) (run : List Desc) (low high middle : ℕ) (why : Unquiet) (judged : Judged) →
-    IsBetween program chosen run low high why → IsJudged program chosen middle run judged → judged.unquiet ≡ None → IsBetween program chosen run (middle + 1) high why
+    IsBetween program chosen run low high why → IsJudgedPlay program chosen middle run judged → judged.unquiet ≡ None → IsBetween program chosen run (middle + 1) high why
 higher_low program chosen run low high middle why judged b j e =
     let same : middle ≡ middle + 1 - 1 = omega arith in
     record { unquiet = b.unquiet; quiet = inr (subst (λ (m : ℕ). IsQuietPlay program chosen m run) same (j.quiet e)) }

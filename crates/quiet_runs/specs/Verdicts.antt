@@ -18,14 +18,14 @@ use Rattle.quiet_runs.specs.declared.first_turns.Verdict.TheVariants.{Quiet, Not
 
 -- The play for at most n turns ended so. It is quiet if no reason was seen, and else this is the reason of its first
 -- deed that is not.
-pub record IsJudged (program : Played) (chosen : List ℕ) (n : ℕ) (run : List Desc) (judged : Judged) : Type 0 where
+pub record IsJudgedPlay (program : Played) (chosen : List ℕ) (n : ℕ) (run : List Desc) (judged : Judged) : Type 0 where
   pub ended : ending_of (play_alone program chosen n run).outcome ≡ Some judged.ending
   pub quiet : judged.unquiet ≡ None → IsQuietPlay program chosen n run
   pub unquiet : (why : Unquiet) → judged.unquiet ≡ Some why → HasUnquietDeed program chosen n run why
 
 -- the same of each program that the code stands for
 abbrev pub JudgesCode : CodeLists → List ℕ → ℕ → List Desc → Judged → Type 0
-JudgesCode code chosen n run judged = (program : Played) → IsCodeOf program code → IsJudged program chosen n run judged
+JudgesCode code chosen n run judged = (program : Played) → IsCodeOf program code → IsJudgedPlay program chosen n run judged
 
 -- The play is quiet for n turns, and ended so.
 pub record IsQuietFor (program : Played) (chosen : List ℕ) (n : ℕ) (run : List Desc) (ending : Ending) : Type 0 where
@@ -38,13 +38,13 @@ pub record IsUnquietIn (program : Played) (chosen : List ℕ) (n : ℕ) (run : L
   pub first : IsFirstUnquiet program chosen run turn piece why
   pub within : turn ≤ n
 
-abbrev pub IsVerdict : Played → List ℕ → ℕ → List Desc → Verdict → Type 0
-IsVerdict program chosen n run (Quiet ending) = IsQuietFor program chosen n run ending
-IsVerdict program chosen n run (NotQuiet turn piece why) = IsUnquietIn program chosen n run turn piece why
+abbrev pub IsQuietVerdict : Played → List ℕ → ℕ → List Desc → Verdict → Type 0
+IsQuietVerdict program chosen n run (Quiet ending) = IsQuietFor program chosen n run ending
+IsQuietVerdict program chosen n run (NotQuiet turn piece why) = IsUnquietIn program chosen n run turn piece why
 
 abbrev pub JudgesPlay : CodeLists → List ℕ → ℕ → List Desc → Verdict → Type 0
 JudgesPlay code chosen n run verdict =
-    (program : Played) → IsCodeOf program code → IsVerdict program chosen n run verdict
+    (program : Played) → IsCodeOf program code → IsQuietVerdict program chosen n run verdict
 
 -- the play of a code on new devices of these descriptions goes on at this place
 abbrev pub GoesOnAlone : CodeLists → List ℕ → ℕ → List Desc → ℕ → Type 0

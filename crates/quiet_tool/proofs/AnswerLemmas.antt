@@ -15,7 +15,7 @@ use Rattle.dev_card.specs.declared.desc.Desc.{Desc}
 use Rattle.padded_plays.specs.declared.unquiet.Unquiet.{Unquiet}
 use Rattle.quiet_runs.specs.declared.first_turns.Verdict.{Verdict}
 use Rattle.quiet_runs.specs.declared.first_turns.Verdict.TheVariants as verdicts
-use Rattle.quiet_runs.specs.Verdicts.{IsVerdict}
+use Rattle.quiet_runs.specs.Verdicts.{IsQuietVerdict}
 use Rattle.named_files.specs.Boards.{HasBoard}
 use Rattle.play_words.specs.declared.requests.PlayRequest.{PlayRequest}
 use Rattle.play_words.specs.declared.requests.FilePlay.{FilePlay}
@@ -28,18 +28,18 @@ use Rattle.quiet_tool.specs.Answers.{VerdictAnswer, quiet, unquiet, ChoiceAnswer
 
 module _ {bytes : List ℕ} {turns : ℕ} {verdict : Verdict} where
   pub verdict_quiet : (ending : Ending) (text : List ℕ) → verdict ≡ verdicts.Quiet ending → text ≡ quiet_text turns ending →
-      (program : Played) (procedures : List ℕ) (run : List Desc) → IsVerdict program procedures turns run verdict →
+      (program : Played) (procedures : List ℕ) (run : List Desc) → IsQuietVerdict program procedures turns run verdict →
       VerdictAnswer bytes program procedures turns run text Quiet
   verdict_quiet ending text e f program procedures run v =
-      let q = subst (IsVerdict program procedures turns run) e v in
+      let q = subst (IsQuietVerdict program procedures turns run) e v in
       subst (λ (t : List ℕ). VerdictAnswer bytes program procedures turns run t Quiet) (sym f) (quiet ending q.quiet q.ended)
 
   pub verdict_unquiet : (turn piece line : ℕ) (why : Unquiet) (text : List ℕ) → verdict ≡ verdicts.NotQuiet turn piece why → IsLineOf bytes piece line →
       text ≡ unquiet_line piece line turn why →
-      (program : Played) (procedures : List ℕ) (run : List Desc) → IsVerdict program procedures turns run verdict →
+      (program : Played) (procedures : List ℕ) (run : List Desc) → IsQuietVerdict program procedures turns run verdict →
       VerdictAnswer bytes program procedures turns run text (NotQuiet turn piece why)
   verdict_unquiet turn piece line why text e at f program procedures run v =
-      let q = subst (IsVerdict program procedures turns run) e v in
+      let q = subst (IsQuietVerdict program procedures turns run) e v in
       subst (λ (t : List ℕ). VerdictAnswer bytes program procedures turns run t (NotQuiet turn piece why)) (sym f) (unquiet turn piece line why q.first q.within at)
 
 -- the same verdict, by an equal text and equal devices

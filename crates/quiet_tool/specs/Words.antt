@@ -20,6 +20,6 @@ abbrev pub HasUsage : List (List ℕ) → ℕ → Type 0
 HasUsage words n = IsUsage (play_words words) (n + 1)
 
 -- why they are refused; want of memory needs no cause
-abbrev pub IsRefused : List (List ℕ) → WordsRefused → Type 0
-IsRefused words (refusals.Usage n) = HasUsage words n
-IsRefused words refusals.Memory = Unit {0}
+abbrev pub AreRefused : List (List ℕ) → WordsRefused → Type 0
+AreRefused words (refusals.Usage n) = HasUsage words n
+AreRefused words refusals.Memory = Unit {0}

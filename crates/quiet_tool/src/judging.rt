@@ -10,7 +10,7 @@ ghost use Rattle.stapl_codegen.specs.Generated.{IsCodeOf};
 ghost use Rattle.board_text.specs.Boards.{CanBeFitted};
 ghost use Rattle.chain_sim.specs.Rack.{IsRack};
 ghost use Rattle.code_plays.specs.Plays.{has_place};
-ghost use Rattle.quiet_runs.specs.Verdicts.{IsVerdict};
+ghost use Rattle.quiet_runs.specs.Verdicts.{IsQuietVerdict};
 ghost use Rattle.quiet_tool.specs.Texts.{IsLineOf};
 ghost use Rattle.quiet_tool.specs.Answers.{run_of, VerdictAnswer, ActionAnswer};
 
@@ -53,7 +53,7 @@ fn answer_verdict(
 ) -> Result<Answer, AllocError>
     requires short { length bytes.now ≤ text_limit }
     ensures { IfOk result (λ answer. (program : Played) (procedures : List ℕ) (run : List Desc) →
-        IsVerdict program procedures turns run verdict →
+        IsQuietVerdict program procedures turns run verdict →
         VerdictAnswer bytes.now program procedures turns run answer.text.items answer.status) }
 {
     match verdict {

@@ -3,7 +3,7 @@ ghost use Rattle.std.specs.Prelude.{◌≡◌, map, string_bytes, IfOk, IfErr};
 ghost use Rattle.play_words.specs.declared.mode.Mode.TheVariants as modes;
 ghost use Rattle.play_words.specs.declared.requests.Request.TheVariants as requests;
 ghost use Rattle.play_words.specs.Words.{mode_of};
-ghost use Rattle.quiet_tool.specs.Words.{play_words, AskAbout, IsRefused};
+ghost use Rattle.quiet_tool.specs.Words.{play_words, AskAbout, AreRefused};
 
 use play_words::{FilePlay, Request, WordsRefused, read_words};
 use std::alloc::{AllocError, Global};
@@ -38,7 +38,7 @@ fn play_in(request: Request) -> FilePlay
 /// `Usage` says which word is the first that is not read, or that one is missing; `Memory` is want of memory.
 pub(crate) fn read_question(alloc: Global, words: &[String]) -> Result<FilePlay, WordsRefused>
     ensures play { IfOk result (AskAbout (map string_bytes words.now)) }
-    ensures refused { IfErr result (IsRefused (map string_bytes words.now)) }
+    ensures refused { IfErr result (AreRefused (map string_bytes words.now)) }
 {
     let Ok(all) = play_words(alloc, words) else {
         return Err(WordsRefused::Memory);

@@ -5,11 +5,11 @@ use Rattle.scan_paths.specs.Cables.{Signal, Pulses, Waits, Tunes}
 use Rattle.dev_card.specs.declared.desc.Kind.{Kind}
 use Rattle.dev_card.specs.Sound.{SoundCard}
 use Rattle.quiet_watch.specs.declared.watch.Watch.{Watch}
-use Rattle.quiet_watch.specs.Watches.{Watched, watch_step, Follows}
+use Rattle.quiet_watch.specs.Watches.{Watched, watch_step, WatchFollows}
 use Rattle.quiet_watch.specs.WatchedDevices.{watched_of, HasFollowed}
 
-pub follows_both : (xs ys : List Signal) (a b c : Watched) → Follows a xs b → Follows b ys c → Follows a (xs ++ ys) c
-follows_both [] ys a b c e q = subst (λ w. Follows w ys c) e q
+pub follows_both : (xs ys : List Signal) (a b c : Watched) → WatchFollows a xs b → WatchFollows b ys c → WatchFollows a (xs ++ ys) c
+follows_both [] ys a b c e q = subst (λ w. WatchFollows w ys c) e q
 follows_both (Pulses k ∷ xs) ys a b c p q = (p.0, follows_both xs ys (watch_step a k.tms k.tdi) b c p.1 q)
 follows_both (Waits n ∷ xs) ys a b c p q = follows_both xs ys a b c p q
 follows_both (Tunes n ∷ xs) ys a b c p q = follows_both xs ys a b c p q

@@ -7,7 +7,7 @@ use Rattle.dev_card.specs.Sound.{SoundCard}
 use Rattle.scan_paths.specs.Cables.{Signal, Breakage, line, whole_if, IsCableKept}
 use Rattle.chain_sim.specs.Places.{cards_at, is_chain}
 use Rattle.quiet_watch.specs.declared.watch.Watch.{Watch}
-use Rattle.quiet_watch.specs.Watches.{Watched, watch_tdo, watch_step, Follows}
+use Rattle.quiet_watch.specs.Watches.{Watched, watch_tdo, watch_step, WatchFollows}
 use Rattle.quiet_watch.specs.WatchedRacks.{cards_there}
 
 -- the devices of its rack, as they are now
@@ -70,7 +70,7 @@ module _ {D : Type 0} (fitted : D → Option SoundCard) (kind_of : D → Kind) w
   -- these signals lead from one to another
   pub record HasFollowed (old : Watch D) (signals : List Signal) (new : Watch D) : Type 0 where
     pub same : IsSameWatch old new
-    pub follows : Follows (watched_of old) signals (watched_of new)
+    pub follows : WatchFollows (watched_of old) signals (watched_of new)
 
   -- one clock of the watch
   pub record HasStepped (old : Watch D) (tms tdi tdo : Bool) (new : Watch D) : Type 0 where

@@ -129,11 +129,11 @@ watch_answers w [] = []
 watch_answers w (i ∷ is) = watch_tdo w i.tdi ∷ watch_answers (watch_step w i.tms i.tdi) is
 
 -- These signals lead from what one watch knows to what another knows: each clock has the TDO that the watch answers.
-abbrev pub Follows : Watched → List Signal → Watched → Type 0
-Follows w [] v = v ≡ w
-Follows w (Pulses k ∷ signals) v = (k.tdo ≡ watch_tdo w k.tdi) × Follows (watch_step w k.tms k.tdi) signals v
-Follows w (Waits n ∷ signals) v = Follows w signals v
-Follows w (Tunes n ∷ signals) v = Follows w signals v
+abbrev pub WatchFollows : Watched → List Signal → Watched → Type 0
+WatchFollows w [] v = v ≡ w
+WatchFollows w (Pulses k ∷ signals) v = (k.tdo ≡ watch_tdo w k.tdi) × WatchFollows (watch_step w k.tms k.tdi) signals v
+WatchFollows w (Waits n ∷ signals) v = WatchFollows w signals v
+WatchFollows w (Tunes n ∷ signals) v = WatchFollows w signals v
 
 -- a walk that ends in a state into which only scans lead
 abbrev pub ends_in : Tap → Option Unquiet

@@ -8,7 +8,7 @@ use Rattle.command_words.proofs.RunLemmas.{one_run}
 use Rattle.command_words.proofs.FoundOrNot.{IsFoundOrNot, run_or_not}
 use Rattle.named_files.specs.Words.{FileNames}
 use Rattle.named_files.proofs.WordLemmas.{one_named, found_at}
-use Rattle.rewrite_tool.specs.Words.{NamesProgram, NamesBoard, NamesPlace, IsRun, Request, IsRequest, Asks, IsUsage, no_program, no_board, no_place, too_many}
+use Rattle.rewrite_tool.specs.Words.{NamesProgram, NamesBoard, NamesPlace, IsPlaceRun, Request, IsRequest, Asks, IsUsage, no_program, no_board, no_place, too_many}
 
 one_run_at : (word : Option (List ℕ)) (a b : PlaceRun) → IsSomeAnd word (λ w. NamesRun (codes "place=") most_place w a) → IsSomeAnd word (λ w. NamesRun (codes "place=") most_place w b) → a ≡ b
 one_run_at None a b x y = absurd x
@@ -20,15 +20,15 @@ run_found (Some word) = run_or_not (codes "place=") most_place word
 
 -- ---- places are counted from 1, and the last is not below the first
 
-spelled_run : (most : ℕ) (spelling : List ℕ) (run : PlaceRun) → SpellsRun most spelling run → IsRun run
+spelled_run : (most : ℕ) (spelling : List ℕ) (run : PlaceRun) → SpellsRun most spelling run → IsPlaceRun run
 spelled_run most spelling run (of_one first same) = record { counted = first.enough; in_order = omega (arith, same) }
 spelled_run most spelling run (of_two front back whole first last) = record { counted = first.enough; in_order = last.enough }
 
-word_run : (word : Option (List ℕ)) (run : PlaceRun) → IsSomeAnd word (λ w. NamesRun (codes "place=") most_place w run) → IsRun run
+word_run : (word : Option (List ℕ)) (run : PlaceRun) → IsSomeAnd word (λ w. NamesRun (codes "place=") most_place w run) → IsPlaceRun run
 word_run None run h = absurd h
 word_run (Some word) run h = spelled_run most_place h.spelling run h.spells
 
-pub is_run : (words : List (List ℕ)) (run : PlaceRun) → NamesPlace words run → IsRun run
+pub is_run : (words : List (List ℕ)) (run : PlaceRun) → NamesPlace words run → IsPlaceRun run
 is_run words run h = word_run (slice_get words 2) run h
 
 -- ---- how many words there are

@@ -15,7 +15,7 @@ abbrev pub NamesPlace : List (List ℕ) → PlaceRun → Type 0
 NamesPlace words run = IsSomeAnd (slice_get words 2) (λ word. NamesRun (codes "place=") most_place word run)
 
 -- a run of places, which are counted from 1
-pub record IsRun (run : PlaceRun) : Type 0 where
+pub record IsPlaceRun (run : PlaceRun) : Type 0 where
   pub counted : 1 ≤ run.first
   pub in_order : run.first ≤ run.last
 

@@ -6,7 +6,7 @@ ghost use Rattle.stapl_syntax.specs.Programs.{IsProgram};
 ghost use Rattle.stapl_syntax.specs.ProgramValues.{trees_of};
 ghost use Rattle.board_text.specs.Boards.{CanBeFitted};
 ghost use Rattle.tool_frame.specs.Files.{OfFile, KeepsShelf};
-ghost use Rattle.rewrite_tool.specs.Words.{IsRun};
+ghost use Rattle.rewrite_tool.specs.Words.{IsPlaceRun};
 ghost use Rattle.rewrite_tool.specs.Answers.{ProgramAnswer, FileAnswer};
 
 use crate::RewriteStatus;
@@ -30,7 +30,7 @@ fn put_rewritten<K: Sink>(
 ) -> Result<RewriteStatus, NoAnswer>
     requires program { IsProgram program.now.text (trees_of program.now) }
     requires devices { CanBeFitted devices.now }
-    requires run { IsRun run }
+    requires run { IsPlaceRun run }
     requires whole { IsWhole lines.old }
     ensures { Says K.Sink (ProgramAnswer devices.now run program.now.text) ⊥ lines.old lines.new result }
 {
@@ -65,7 +65,7 @@ pub(crate) fn answer_file<S: Shelf, K: Sink>(
     lines: &mut Lines<K>,
 ) -> Result<RewriteStatus, NoAnswer>
     requires devices { CanBeFitted devices.now }
-    requires run { IsRun run }
+    requires run { IsPlaceRun run }
     requires whole { IsWhole lines.old }
     ensures says { OfFile (S.told shelf.old) (Some path.now) (λ held. Says K.Sink
         (FileAnswer devices.now run held) (IsSilent lines.old lines.new) lines.old lines.new result) }

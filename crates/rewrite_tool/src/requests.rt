@@ -3,7 +3,7 @@ ghost use Rattle.tool_io.specs.Lines.{IsWhole, IsSilent};
 ghost use Rattle.tool_frame.specs.Answers.{Says};
 ghost use Rattle.tool_frame.specs.Files.{KeepsShelf};
 ghost use Rattle.named_files.specs.Contents.{OfContents, IsReached};
-ghost use Rattle.rewrite_tool.specs.Words.{IsRun};
+ghost use Rattle.rewrite_tool.specs.Words.{IsPlaceRun};
 ghost use Rattle.rewrite_tool.specs.Named.{request_of};
 ghost use Rattle.rewrite_tool.specs.Answers.{RequestAnswer};
 
@@ -22,7 +22,7 @@ pub(crate) fn answer_request<S: Shelf, K: Sink>(
     shelf: &mut S,
     lines: &mut Lines<K>,
 ) -> Result<RewriteStatus, NoAnswer>
-    requires run { IsRun named.run }
+    requires run { IsPlaceRun named.run }
     requires whole { IsWhole lines.old }
     ensures says { OfContents (S.told shelf.old) (request_of named.entry).files (λ contents. Says K.Sink
         (RequestAnswer (request_of named.entry) contents) (IsSilent lines.old lines.new)

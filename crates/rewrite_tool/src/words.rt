@@ -1,7 +1,7 @@
 //! The words of the program.
 ghost use Rattle.std.specs.Prelude.{map, string_bytes, IfSome, IfNone, IfOk, IfErr};
 ghost use Rattle.command_words.specs.declared.place_run.PlaceRun.{PlaceRun};
-ghost use Rattle.rewrite_tool.specs.Words.{NamesPlace, IsRun, IsRequest, IsUsage};
+ghost use Rattle.rewrite_tool.specs.Words.{NamesPlace, IsPlaceRun, IsRequest, IsUsage};
 ghost use Rattle.rewrite_tool.specs.Named.{request_of};
 
 use command_words::{MOST_PLACE, PlaceRun, run_under};
@@ -30,7 +30,7 @@ fn named_run(words: &[String]) -> Option<PlaceRun>
 /// is missing.
 pub(crate) fn read_words<'a>(words: &'a [String]) -> Result<Named<'a>, u32>
     ensures request { IfOk result (λ named. IsRequest (map string_bytes words.now) (request_of named)) }
-    ensures run { IfOk result (λ named. IsRun named.run) }
+    ensures run { IfOk result (λ named. IsPlaceRun named.run) }
     ensures usage { IfErr result (IsUsage (map string_bytes words.now)) }
 {
     let Some(program) = path_at(words, 0, "program=") else {

@@ -117,8 +117,8 @@ module _ {C : Type 0} (board : C → Option (List Card)) (makes : C → List Sig
   abbrev Shift : List Input
   Shift = shift_inputs (scan_bits s)
 
-  abbrev Behind : List Input
-  Behind = pause_inputs ++ stop_inputs s.ir s.stop
+  abbrev AfterShift : List Input
+  AfterShift = pause_inputs ++ stop_inputs s.ir s.stop
 
   to_shift : (a b : C) (place : ℕ) (captured : List Bool) → HasSeen board makes a b (part_inputs true (scan_bits s)) place captured →
       HasSeen board makes a b Shift place captured
@@ -131,31 +131,31 @@ module _ {C : Type 0} (board : C → Option (List Card)) (makes : C → List Sig
       HasSeen board makes b c (part_inputs true (scan_bits s)) place captured → HasMade board makes c d pause_inputs → HasMade board makes d f (stop_inputs s.ir s.stop) →
       HasSeen board makes a f (inputs_of_scan at s) (length (entry_inputs at s.ir) + place) captured
   scan_made a b c d f place captured p1 p2 p3 p4 =
-      seen_after board makes both a b f (entry_inputs at s.ir) (Shift ++ Behind) place captured p1
-      (seen_before board makes both b c f Shift Behind place captured (to_shift b c place captured p2)
+      seen_after board makes both a b f (entry_inputs at s.ir) (Shift ++ AfterShift) place captured p1
+      (seen_before board makes both b c f Shift AfterShift place captured (to_shift b c place captured p2)
       (made_both board makes both c d f pause_inputs (stop_inputs s.ir s.stop) p3 p4))
 
   pub scan_failed_1 : (a b : C) → HasMadeFront board makes a b (entry_inputs at s.ir) → HasMadeFront board makes a b (inputs_of_scan at s)
-  scan_failed_1 a b f1 = front_longer board makes a b (entry_inputs at s.ir) (Shift ++ Behind) f1
+  scan_failed_1 a b f1 = front_longer board makes a b (entry_inputs at s.ir) (Shift ++ AfterShift) f1
 
   pub scan_failed_2 : (a b c : C) → HasMade board makes a b (entry_inputs at s.ir) → HasMadeFront board makes b c (part_inputs true (scan_bits s)) →
       HasMadeFront board makes a c (inputs_of_scan at s)
   scan_failed_2 a b c p1 f2 =
-      front_after board makes both a b c (entry_inputs at s.ir) (Shift ++ Behind) p1
-      (front_longer board makes b c Shift Behind (subst (λ z. HasMadeFront board makes b c z) (sym (inputs_of_whole (scan_bits s))) f2))
+      front_after board makes both a b c (entry_inputs at s.ir) (Shift ++ AfterShift) p1
+      (front_longer board makes b c Shift AfterShift (subst (λ z. HasMadeFront board makes b c z) (sym (inputs_of_whole (scan_bits s))) f2))
 
   pub scan_failed_3 : (a b c d : C) (place : ℕ) (captured : List Bool) → HasMade board makes a b (entry_inputs at s.ir) →
       HasSeen board makes b c (part_inputs true (scan_bits s)) place captured → HasMadeFront board makes c d pause_inputs → HasMadeFront board makes a d (inputs_of_scan at s)
   scan_failed_3 a b c d place captured p1 p2 f3 =
-      front_after board makes both a b d (entry_inputs at s.ir) (Shift ++ Behind) p1
-      (front_after board makes both b c d Shift Behind (made_shift b c place captured p2) (front_longer board makes c d pause_inputs (stop_inputs s.ir s.stop) f3))
+      front_after board makes both a b d (entry_inputs at s.ir) (Shift ++ AfterShift) p1
+      (front_after board makes both b c d Shift AfterShift (made_shift b c place captured p2) (front_longer board makes c d pause_inputs (stop_inputs s.ir s.stop) f3))
 
   pub scan_failed_4 : (a b c d f : C) (place : ℕ) (captured : List Bool) → HasMade board makes a b (entry_inputs at s.ir) →
       HasSeen board makes b c (part_inputs true (scan_bits s)) place captured → HasMade board makes c d pause_inputs → HasMadeFront board makes d f (stop_inputs s.ir s.stop) →
       HasMadeFront board makes a f (inputs_of_scan at s)
   scan_failed_4 a b c d f place captured p1 p2 p3 f4 =
-      front_after board makes both a b f (entry_inputs at s.ir) (Shift ++ Behind) p1
-      (front_after board makes both b c f Shift Behind (made_shift b c place captured p2)
+      front_after board makes both a b f (entry_inputs at s.ir) (Shift ++ AfterShift) p1
+      (front_after board makes both b c f Shift AfterShift (made_shift b c place captured p2)
       (front_after board makes both c d f pause_inputs (stop_inputs s.ir s.stop) p3 f4))
 
   -- before the last of them all controllers are in the pause state

@@ -28,7 +28,7 @@ use Rattle.stapl_checker.specs.declared.reading.Unread.{Unread}
 use Rattle.stapl_checker.specs.Judgements.{What, statement, faulty, what_tree, what_trees, unless_late, reason_from, reason_at, reason_of_end, IsFirstReason}
 use Rattle.stapl_checker.specs.Readings.{stmt_trees, IsFrontTo, IsToldBy}
 use Rattle.stapl_checker.specs.Walks.{facts_by, numbered_trees, broken_by, broken_at, NoneBroken, StopsAt, ComesToEnd}
-use Rattle.stapl_checker.specs.Firsts.{front_by, front_of, reason_of_course, fault_at, first_by, IsFirstFault}
+use Rattle.stapl_checker.specs.Firsts.{front_by, front_of, reason_of_course, fault_at, first_by, IsFirstFaultOf}
 use Rattle.stapl_names.proofs.Keys.{name_same, name_itself, found_after}
 
 -- each block that a statement begins is in the table
@@ -214,7 +214,7 @@ none_to : (whats : List What) (n : ℕ) → ((k : ℕ) → k < n → reason_at w
 none_to whats n before here k le = below_more (λ i. reason_at whats i ≡ None) n before here k (omega arith)
 
 at_end : (whats : List What) (trees : List StmtTree) (count : ℕ) (reason : Option Reason) → count ≡ length whats → ((k : ℕ) → k < count → reason_at whats k ≡ None) →
-    reason_at whats count ≡ reason → what_trees whats ≡ map Some trees → IsFirstFault whats trees (fault_at count reason)
+    reason_at whats count ≡ reason → what_trees whats ≡ map Some trees → IsFirstFaultOf whats trees (fault_at count reason)
 at_end whats trees count (Some reason) long before here same = record { within = omega (arith, long); here = here; before = before }
 at_end whats trees count None long before here same = record {
   none = record { none = λ k le. none_to whats count before here k (omega (arith, le, long)) };
@@ -222,11 +222,11 @@ at_end whats trees count None long before here same = record {
 }
 
 at_unread : (whats : List What) (trees : List StmtTree) (u : Unread) → u.index < length whats → slice_get whats u.index ≡ Some (faulty u.reason) →
-    ((k : ℕ) → k < u.index → reason_at whats k ≡ None) → IsFirstFault whats trees (fault_at u.index (unless_late u.index (Some u.reason)))
+    ((k : ℕ) → k < u.index → reason_at whats k ≡ None) → IsFirstFaultOf whats trees (fault_at u.index (unless_late u.index (Some u.reason)))
 at_unread whats trees u lt here before = by (nat_le piece_limit u.index) (ap (reason_from (what_trees whats) u.index) here)
   where
     by : (b : Bool) → reason_at whats u.index ≡ (if b then Some reasons.TooManyPieces else Some u.reason) →
-        IsFirstFault whats trees (fault_at u.index (if b then Some reasons.TooManyPieces else Some u.reason))
+        IsFirstFaultOf whats trees (fault_at u.index (if b then Some reasons.TooManyPieces else Some u.reason))
     by true e = record { within = omega arith; here = e; before = before }
     by false e = record { within = omega arith; here = e; before = before }
 
@@ -234,7 +234,7 @@ ends_by : (names : Names) (whats : List What) (statements : List Stmt) (unread :
     names ≡ names_of (numbered (what_trees whats)) → front_by unread (length statements) ≤ length statements →
     count ≡ length (take (front_by unread (length statements)) statements) →
     ComesToEnd names (map stmt_tree (take (front_by unread (length statements)) statements)) c →
-    IsFirstFault whats (map stmt_tree statements) (first_by unread count c)
+    IsFirstFaultOf whats (map stmt_tree statements) (first_by unread count c)
 ends_by names whats statements (Some u) count c front all le long ends =
     let own = in_front whats statements (Some u) front le in
     let mapped = length-map (take u.index statements) stmt_tree in
@@ -267,7 +267,7 @@ ends_by names whats statements None count c front all le long ends =
 pub ends_is : (names : Names) (whats : List What) (reading : Reading) (count : ℕ) (c : Course) → IsToldBy whats reading → names ≡ names_of (numbered (what_trees whats)) →
     front_of reading ≤ length reading.statements.items → count ≡ length (take (front_of reading) reading.statements.items) →
     ComesToEnd names (map stmt_tree (take (front_of reading) reading.statements.items)) c →
-    IsFirstFault whats (map stmt_tree reading.statements.items) (first_by reading.unread count c)
+    IsFirstFaultOf whats (map stmt_tree reading.statements.items) (first_by reading.unread count c)
 ends_is names whats reading count c told all le long ends = ends_by names whats reading.statements.items reading.unread count c told.front all le long ends
 
 pub listed_front : (names : Names) (statements : List Stmt) (n : ℕ) → All (λ (st : StmtTree). BeginsListed names st.body) (map stmt_tree statements) →

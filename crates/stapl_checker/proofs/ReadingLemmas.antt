@@ -11,7 +11,7 @@ use Rattle.stapl_checker.specs.declared.reading.Read.TheVariants.{Statement, Fau
 use Rattle.stapl_checker.specs.declared.reading.Unread.{Unread}
 use Rattle.stapl_checker.specs.declared.reading.Reading.{Reading}
 use Rattle.stapl_checker.specs.Judgements.{What, statement, faulty, IsWhat, AreWhat, what_tree, what_trees}
-use Rattle.stapl_checker.specs.Readings.{IsRead, first_unread, Adds, stmt_trees, IsFront, IsFrontTo, IsReading}
+use Rattle.stapl_checker.specs.Readings.{IsRead, first_unread, Adds, stmt_trees, IsReadFront, IsFrontTo, IsReading}
 
 -- on lists with one item more
 
@@ -61,7 +61,7 @@ as_long text (p ∷ pieces) [] a = absurd a
 as_long text (p ∷ pieces) (w ∷ whats) a = let h = as_long text pieces whats a.1 in cc
 
 -- the front stays if a piece stands after it
-front_stays : (whats : List What) (sts : List StmtTree) (w : What) (t : StmtTree) (u : Unread) → IsFront whats sts u → IsFront (whats ++ w ∷ []) (sts ++ t ∷ []) u
+front_stays : (whats : List What) (sts : List StmtTree) (w : What) (t : StmtTree) (u : Unread) → IsReadFront whats sts u → IsReadFront (whats ++ w ∷ []) (sts ++ t ∷ []) u
 front_stays whats sts w t u front =
     let long = length-append whats (w ∷ []) in
     let longer = length-append sts (t ∷ []) in
@@ -74,7 +74,7 @@ front_stays whats sts w t u front =
       here = slice_front whats w u.index below ∙ front.here;
     }
 
-front_stays_faulty : (whats : List What) (sts : List StmtTree) (w : What) (u : Unread) → IsFront whats sts u → IsFront (whats ++ w ∷ []) sts u
+front_stays_faulty : (whats : List What) (sts : List StmtTree) (w : What) (u : Unread) → IsReadFront whats sts u → IsReadFront (whats ++ w ∷ []) sts u
 front_stays_faulty whats sts w u front =
     let long = length-append whats (w ∷ []) in
     let below = front.below in

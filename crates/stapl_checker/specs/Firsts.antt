@@ -37,6 +37,6 @@ pub record IsFaultless (whats : List What) (statements : List StmtTree) : Type 0
   pub same : what_trees whats ≡ map Some statements
 
 -- the first fault, if there is one
-abbrev pub IsFirstFault : List What → List StmtTree → Option Fault → Type 0
-IsFirstFault whats statements None = IsFaultless whats statements
-IsFirstFault whats statements (Some fault) = IsFirstReason whats fault.index fault.reason
+abbrev pub IsFirstFaultOf : List What → List StmtTree → Option Fault → Type 0
+IsFirstFaultOf whats statements None = IsFaultless whats statements
+IsFirstFaultOf whats statements (Some fault) = IsFirstReason whats fault.index fault.reason

@@ -35,7 +35,7 @@ abbrev pub stmt_trees : List Stmt → List StmtTree
 stmt_trees statements = map stmt_tree statements
 
 -- the pieces before this one are these statements, and it is none
-pub record IsFront (whats : List What) (statements : List StmtTree) (unread : Unread) : Type 0 where
+pub record IsReadFront (whats : List What) (statements : List StmtTree) (unread : Unread) : Type 0 where
   pub below : unread.index < length whats
   pub enough : unread.index ≤ length statements
   pub front : take unread.index whats ≡ map statement (take unread.index statements)
@@ -44,7 +44,7 @@ pub record IsFront (whats : List What) (statements : List StmtTree) (unread : Un
 -- up to the first piece that has no statement, or to the end, the pieces are these statements
 abbrev pub IsFrontTo : List What → List StmtTree → Option Unread → Type 0
 IsFrontTo whats statements None = whats ≡ map statement statements
-IsFrontTo whats statements (Some unread) = IsFront whats statements unread
+IsFrontTo whats statements (Some unread) = IsReadFront whats statements unread
 
 -- What was read tells what each piece is.
 pub record IsToldBy (whats : List What) (reading : Reading) : Type 0 where

@@ -7,7 +7,7 @@ ghost use Rattle.stapl_syntax.specs.Names.{numbered, names_of};
 ghost use Rattle.checker_rules.specs.Courses.{BeginsListed};
 ghost use Rattle.stapl_checker.specs.Judgements.{What, what_trees};
 ghost use Rattle.stapl_checker.specs.Readings.{IsToldBy};
-ghost use Rattle.stapl_checker.specs.Firsts.{front_of, first_by, reason_of_course, IsFirstFault};
+ghost use Rattle.stapl_checker.specs.Firsts.{front_of, first_by, reason_of_course, IsFirstFaultOf};
 
 use crate::reading::{Reading, Unread};
 use crate::walk::{Walked, unless_late, walk};
@@ -72,7 +72,7 @@ pub(crate) fn first_fault(names: &Names, reading: &Reading) -> Option<Fault>
     requires listed { All (λ st. BeginsListed names.now st.body) (map stmt_tree reading.now.statements.items) }
     ensures { (whats : List What) → IsToldBy whats reading.now →
         names.now ≡ names_of (numbered (what_trees whats)) →
-        IsFirstFault whats (map stmt_tree reading.now.statements.items) result }
+        IsFirstFaultOf whats (map stmt_tree reading.now.statements.items) result }
 {
     let statements = &reading.statements[..front_of(reading)];
     match walk(names, statements) {

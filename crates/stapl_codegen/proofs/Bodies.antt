@@ -164,13 +164,13 @@ module _ (place : ℕ → ℕ) (entries : List ℕ) (texts : List (List ℕ)) (l
   constants = program_constants texts literals
 
   -- the place of the code that stands before this is that of the piece after the statement
-  abbrev IsBehind : List Instr → Type 0
-  IsBehind rest = suc (total - suc (length rest)) ≡ place scope.follow
+  abbrev IsAfter : List Instr → Type 0
+  IsAfter rest = suc (total - suc (length rest)) ≡ place scope.follow
 
   -- the next turn follows after a statement
-  pub record Behind (rest : List Instr) : Type 0 where
+  pub record IsAtRest (rest : List Instr) : Type 0 where
     pub falls_on : (t : State) (k : Chain) → stretch entries constants total rest [] t k ≡ Led [] (place scope.follow) t k
-    pub is_after : IsBehind rest
+    pub is_after : IsAfter rest
 
   -- procedures begin where the code says
   abbrev EntriesAre : Type 0
@@ -223,7 +223,7 @@ module _ (place : ℕ → ℕ) (entries : List ℕ) (texts : List (List ℕ)) (l
   -- What stands after the operands of a row does with their values what the row does.
   pub record Tied (first : Firsts) (b : BodyTree) : Type 0 where
     pub follows : (rest : List Instr) (vs : List Value) (s : State) (k : Chain) (go : State → Turned) → values_of scope.look s.store.variables (operands scope b) ≡ Known vs →
-        (is_call b ≡ true → IsBehind rest) → GoesAlike rest go →
+        (is_call b ≡ true → IsAfter rest) → GoesAlike rest go →
         stretch entries constants total (between scope b (last scope place first b ∷ rest)) (onto vs []) (placed_state place s) k
         ≡ happens k (placed place (with_got (effect scope b vs s) s (λ did. led scope.entry (target scope b) did go)))
 
@@ -398,7 +398,7 @@ module _ (place : ℕ → ℕ) (entries : List ℕ) (texts : List (List ℕ)) (l
 
   -- the law of all rows
   pub row_follows : (s : State) (k : Chain) (first : Firsts) (b : BodyTree) (rest : List Instr) (go : State → Turned) → Tied first b →
-      (is_call b ≡ true → IsBehind rest) → GoesAlike rest go →
+      (is_call b ≡ true → IsAfter rest) → GoesAlike rest go →
       stretch entries constants total (row_code scope place first b rest) [] (placed_state place s) k ≡ happens k (placed place (carried scope b s go))
   row_follows s k first b rest go tied after more =
       let values : Got (List Value) = values_of scope.look s.store.variables (operands scope b) in
@@ -408,8 +408,8 @@ module _ (place : ℕ → ℕ) (entries : List ℕ) (texts : List (List ℕ)) (l
       ∙ with_placed place values s k did
 
   -- the place after a CALL is that after its statement
-  call_after : (first : Firsts) (b : BodyTree) (bs : List BodyTree) (rest : List Instr) → CallsLast (b ∷ bs) → IsBehind rest → is_call b ≡ true →
-      IsBehind (rows_code scope place first bs rest)
+  call_after : (first : Firsts) (b : BodyTree) (bs : List BodyTree) (rest : List Instr) → CallsLast (b ∷ bs) → IsAfter rest → is_call b ≡ true →
+      IsAfter (rows_code scope place first bs rest)
   call_after first b [] rest last after is = after
   call_after first b (c ∷ bs) rest last after is = absurd (true≢false (sym is ∙ last.0))
 
@@ -418,7 +418,7 @@ module _ (place : ℕ → ℕ) (entries : List ℕ) (texts : List (List ℕ)) (l
   rows_after b (c ∷ bs) last = last.1
 
   rows_follow : (s : State) (k : Chain) (first : Firsts) (bs : List BodyTree) (rest : List Instr) → EntriesAre → HasConstants constants first (rows_items row_texts bs) (rows_items row_literals bs) →
-      CallsLast bs → Behind rest → stretch entries constants total (rows_code scope place first bs rest) [] (placed_state place s) k ≡ happens k (placed place (rows_done scope bs s))
+      CallsLast bs → IsAtRest rest → stretch entries constants total (rows_code scope place first bs rest) [] (placed_state place s) k ≡ happens k (placed place (rows_done scope bs s))
   rows_follow s k first [] rest entry_is has last after = after.falls_on (placed_state place s) k
   rows_follow s k first (b ∷ bs) rest entry_is has last after =
       let own = row_has constants first (row_texts b) (rows_items row_texts bs) (row_literals b) (rows_items row_literals bs) has in
@@ -450,7 +450,7 @@ module _ (place : ℕ → ℕ) (entries : List ℕ) (texts : List (List ℕ)) (l
   abbrev Follows : State → Chain → Firsts → BodyTree → List Instr → Type 0
   Follows s k first b rest = stretch entries constants total (body_code scope place first b rest) [] (placed_state place s) k ≡ happens k (placed place (done scope s b))
 
-  pub body_follows : (s : State) (k : Chain) (first : Firsts) (b : BodyTree) (rest : List Instr) → EntriesAre → (falls b ≡ true → Behind rest) →
+  pub body_follows : (s : State) (k : Chain) (first : Firsts) (b : BodyTree) (rest : List Instr) → EntriesAre → (falls b ≡ true → IsAtRest rest) →
       HasConstants constants first (body_texts b) (body_literals b) →
       Follows s k first b rest
   body_follows s k first b rest entry_is after has = by (falls b) refl

@@ -3,7 +3,7 @@ use Rattle.std.proofs.Common.{◌≡◌, Bool, true, false, not, List, [], ◌�
 use Rattle.stapl_syntax.specs.Trees.{BodyTree, end_procedure, StmtTree}
 use Rattle.stapl_syntax.specs.Statements.{is_outer, begins_procedure, ends_procedure}
 use Rattle.stapl_meaning.specs.Typed.{IsOrdered}
-use Rattle.stapl_codegen.specs.Correct.{falls, GoesOn, IsClosed}
+use Rattle.stapl_codegen.specs.Correct.{falls, StandsInProcedure, IsClosed}
 
 clash : (b : Bool) → b ≡ true → b ≡ false → ⊥
 clash true e f = absurd cc
@@ -11,7 +11,7 @@ clash false e f = absurd cc
 
 -- each statement of a procedure but ENDPROC stands before another one
 
-goes_on : (sts : List StmtTree) → IsOrdered true sts → GoesOn sts
+goes_on : (sts : List StmtTree) → IsOrdered true sts → StandsInProcedure sts
 goes_on [] ordered = absurd cc
 goes_on (st ∷ rest) ordered = ordered.0
 

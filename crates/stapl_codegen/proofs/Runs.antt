@@ -15,11 +15,11 @@ use Rattle.stapl_code.specs.declared.instr.Instr.TheVariants.{Turn}
 use Rattle.stapl_code.specs.Machine.{Constants, nowhere, stretch, begins, code_turn, code_run}
 use Rattle.stapl_code.proofs.Preceded.{scan_alike, scan_through, happens_in_piece}
 use Rattle.stapl_codegen.specs.Emit.{body_code, firsts_at, constants_in, texts_of, literals_of, pieces_code, program_code, start_of, program_entries}
-use Rattle.stapl_codegen.specs.Correct.{GoesOn, IsClosed, placed_state, placed_run, AllStart, Stands}
+use Rattle.stapl_codegen.specs.Correct.{StandsInProcedure, IsClosed, placed_state, placed_run, AllStart, Stands}
 use Rattle.stapl_code.proofs.Heads.{head_of, get_head, drop_tail}
 use Rattle.stapl_codegen.proofs.Lists.{body_before, code_split}
 use Rattle.stapl_codegen.proofs.Texts.{preset_known, constants_at}
-use Rattle.stapl_codegen.proofs.Bodies.{Behind, body_follows}
+use Rattle.stapl_codegen.proofs.Bodies.{IsAtRest, body_follows}
 use Rattle.stapl_codegen.proofs.Placed.{placed, piece_placed}
 use Rattle.stapl_codegen.proofs.Prologue.{begins_alike}
 use Rattle.stapl_codegen.proofs.Pieces.{start_is, start_none, start_head, code_from, entry_is}
@@ -138,21 +138,21 @@ module _ (program : Played) where
   From i sts = pieces_code program place i sts
 
   after_turn : (scope : Scope) (q : ℕ) (code : List Instr) → suc (length (Turn q ∷ code)) ≤ All → All - length (Turn q ∷ code) ≡ place scope.follow →
-      Behind place Entries (texts_of program) (literals_of program) All scope (Turn q ∷ code)
+      IsAtRest place Entries (texts_of program) (literals_of program) All scope (Turn q ∷ code)
   after_turn scope q code within e =
       let next : suc (All - suc (length (Turn q ∷ code))) ≡ All - length (Turn q ∷ code) = omega (arith, within) in
       record { falls_on = λ t k. ap (λ n. let h : Happened = Led [] n t k in h) e; is_after = next ∙ e }
 
   -- what follows a piece that is not the last of its procedure
-  after_piece : (i : ℕ) (sts : List StmtTree) → drop (i + 1) program.pieces ≡ sts → suc (length (From (i + 1) sts)) ≤ All → GoesOn sts →
-      Behind place Entries (texts_of program) (literals_of program) All (scope_at program i) (From (i + 1) sts)
+  after_piece : (i : ℕ) (sts : List StmtTree) → drop (i + 1) program.pieces ≡ sts → suc (length (From (i + 1) sts)) ≤ All → StandsInProcedure sts →
+      IsAtRest place Entries (texts_of program) (literals_of program) All (scope_at program i) (From (i + 1) sts)
   after_piece i [] e within go = absurd go
   after_piece i (st ∷ rest) e within go =
       let code = body_code (scope_at program (i + 1)) place (firsts_at program (i + 1)) st.body (From (i + 1 + 1) rest) in
       let is : From (i + 1) (st ∷ rest) ≡ Turn (i + 1 + 1) ∷ code = ap (λ b. cond b (From (i + 1 + 1) rest) (Turn (i + 1 + 1) ∷ code)) go in
       let at = start_is program (i + 1) st (get_head (i + 1) program.pieces ∙ ap head_of e) go in
       let at' : All - length (Turn (i + 1 + 1) ∷ code) ≡ place (i + 1) = sym (at ∙ ap (λ l. All - length (From (i + 1) l)) e ∙ ap (λ c. All - length c) is) in
-      subst (Behind place Entries (texts_of program) (literals_of program) All (scope_at program i)) (sym is)
+      subst (IsAtRest place Entries (texts_of program) (literals_of program) All (scope_at program i)) (sym is)
       (after_turn (scope_at program i) (i + 1 + 1) code (omega (arith, within, ap length is)) at')
 
   module _ (closed : IsClosed program.pieces) (short : All ≤ nowhere) where

@@ -180,7 +180,7 @@ module _ (program : Played) (shaped : All HasShape program.pieces) (typed : IsTy
     open_in k j st rest is e = ap (block_at program.pieces) is ∙ open_along k 0 (h + 1) own st rest (omega arith) refl open_first e
 
     -- the code of a statement of the procedure, after so many instructions of it
-    pub record IsBehind (k j : ℕ) (sts : List StmtTree) : Type 0 where
+    pub record IsAfter (k j : ℕ) (sts : List StmtTree) : Type 0 where
       pub before : List Instr
       pub split : procedure_code ≡ before ++ From j sts
       pub starts : start_of program j ≡ entry + length before
@@ -194,7 +194,7 @@ module _ (program : Played) (shaped : All HasShape program.pieces) (typed : IsTy
             start_from (h + 1) st (rest ++ back) (own_at ∙ ap (λ l. l ++ back) same) (own_inner (st ∷ rest) 0 st rest are' refl)
             ∙ sym (ap (λ l. length code - length (From (h + 1) (l ++ back))) same)
 
-    beyond : (k j : ℕ) (st : StmtTree) (rest : List StmtTree) → j ≡ h + 1 + k → drop k own ≡ st ∷ rest → IsBehind k j (st ∷ rest)
+    beyond : (k j : ℕ) (st : StmtTree) (rest : List StmtTree) → j ≡ h + 1 + k → drop k own ≡ st ∷ rest → IsAfter k j (st ∷ rest)
     beyond k j st rest is e =
         let split = pieces_split program (start_of program) k (h + 1) own in
         let long = fewer k own st rest e in

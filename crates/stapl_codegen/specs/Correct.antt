@@ -19,15 +19,15 @@ falls end_procedure = false
 falls _ = true
 
 -- a statement of a procedure stands in front
-abbrev pub GoesOn : List StmtTree → Type 0
-GoesOn [] = ⊥
-GoesOn (st ∷ rest) = is_outer st.body ≡ false
+abbrev pub StandsInProcedure : List StmtTree → Type 0
+StandsInProcedure [] = ⊥
+StandsInProcedure (st ∷ rest) = is_outer st.body ≡ false
 
 -- Each statement of a procedure but ENDPROC stands before another one.
 abbrev pub IsClosed : List StmtTree → Type 0
 IsClosed [] = Unit {0}
 IsClosed (st ∷ rest) =
-    (is_outer st.body ≡ false → falls st.body ≡ true → GoesOn rest)
+    (is_outer st.body ≡ false → falls st.body ≡ true → StandsInProcedure rest)
     × IsClosed rest
 
 -- A run of the program, with the places of the code in the place of its own: that of the outcome, and those in the

@@ -23,7 +23,7 @@ use Rattle.stapl_grammar.proofs.ListLaws.{after_symbol_some, IsSign, list_sound,
 -- ---- what is read is the part
 
 -- after HZ
-record BehindHz (s : List Symbol) : Type 0 where
+record AfterHz (s : List Symbol) : Type 0 where
   taken : List Symbol
   parts : s ≡ taken ++ after_hz s
   meant : (taken ≡ []) ⊎ (taken ≡ hz ∷ [])

@@ -59,7 +59,7 @@ IsCleanMove most (moved.Ends w) work = IsClean w work.operands.items
 IsCleanMove most _ work = length work.operands.items ≤ most
 
 -- where a wait is still to be done, it stays in a stable state, and a scan can be done
-abbrev pub RestsBehind : Moved → Memory → Type 0
-RestsBehind (moved.Acts d) memory = RestsIn d
-RestsBehind (moved.Scans job) memory = CanBeDone memory.variables.items memory.shifted job
-RestsBehind _ memory = Unit {0}
+abbrev pub RestsAfterMove : Moved → Memory → Type 0
+RestsAfterMove (moved.Acts d) memory = RestsIn d
+RestsAfterMove (moved.Scans job) memory = CanBeDone memory.variables.items memory.shifted job
+RestsAfterMove _ memory = Unit {0}

@@ -12,7 +12,7 @@ ghost use Rattle.stapl_code.specs.Safe.{entries_of};
 ghost use Rattle.machine_memory.specs.Acts.{state_with, step_of, stepped, RestsAfter};
 ghost use Rattle.machine_memory.specs.Prints.{instr_room};
 ghost use Rattle.machine_memory.specs.RunRooms.{IsWithin, KeepsRoom};
-ghost use Rattle.stapl_instructions.specs.Moves.{led_to, led_on, IsClean, moved_to, moved_ticks, IsCleanMove, RestsBehind};
+ghost use Rattle.stapl_instructions.specs.Moves.{led_to, led_on, IsClean, moved_to, moved_ticks, IsCleanMove, RestsAfterMove};
 
 use crate::act::act;
 use machine_memory::effects::{Doing, Made, ScanJob};
@@ -122,7 +122,7 @@ fn lead(
         made work.old) go
         ≡ moved_ticks code.now instr.now result chosen.now work.new k go }
     ensures clean { (most : ℕ) → IsWithin most made work.old → IsCleanMove most result work.new }
-    ensures rests { RestsBehind result work.new.memory }
+    ensures rests { RestsAfterMove result work.new.memory }
     ensures room { KeepsRoom work.old work.new }
 {
     match made {
@@ -173,7 +173,7 @@ pub fn advance(
         counted_after k (step_of code.now here instr.now chosen.now work.old) go
         ≡ moved_ticks code.now instr.now result chosen.now work.new k go }
     ensures clean { IsCleanMove (count_after instr.now (length work.old.operands.items)) result work.new }
-    ensures rests { RestsBehind result work.new.memory }
+    ensures rests { RestsAfterMove result work.new.memory }
     ensures room { KeepsRoom work.old work.new }
 {
     match act(code, here, instr, work) {

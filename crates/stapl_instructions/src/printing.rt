@@ -9,7 +9,7 @@ ghost use Rattle.stapl_code.specs.Machine.{known_text, parts_text, does};
 ghost use Rattle.stapl_code.specs.Safe.{constants_of};
 ghost use Rattle.machine_memory.specs.declared.memory.Shifted.{Shifted};
 ghost use Rattle.machine_memory.specs.Found.{IsGot};
-ghost use Rattle.machine_memory.specs.Prints.{IsPut, Follows, with_front, text_length, part_room, parts_room, instr_room, print_room};
+ghost use Rattle.machine_memory.specs.Prints.{IsPut, TakesNext, with_front, text_length, part_room, parts_room, instr_room, print_room};
 ghost use Rattle.machine_memory.specs.Acts.{IsMade};
 
 use itoa::Buffer;
@@ -105,7 +105,7 @@ fn put_character(value: Value, text: &mut Vec<u8>) -> Result<(), Stop>
 
 // The value at a place, and on to the next one.
 fn next_value(values: &[Value], at: &mut usize) -> Result<Value, Stop>
-    ensures { Follows (drop at.old values.now) result (drop at.new values.now) }
+    ensures { TakesNext (drop at.old values.now) result (drop at.new values.now) }
 {
     match values.get(*at) {
         Some(value) => {

@@ -42,7 +42,7 @@ ticks_after_reached code chosen reached.End work = no_ticks
 
 -- An instruction that is reached is one of the code and none before the first one, and what follows holds no more
 -- operands than there is room for; before a turn no operand is left.
-abbrev pub IsReached : CodeLists → ℕ → Reached → Workspace → Type 0
-IsReached code first (reached.Within i) work = ((first ≤ i) × (i < length code.instrs)) × HoldsFrom code i work
-IsReached code first (reached.Turn place) work = work.operands.items ≡ []
-IsReached code first reached.End work = Unit {0}
+abbrev pub IsReachedPlace : CodeLists → ℕ → Reached → Workspace → Type 0
+IsReachedPlace code first (reached.Within i) work = ((first ≤ i) × (i < length code.instrs)) × HoldsFrom code i work
+IsReachedPlace code first (reached.Turn place) work = work.operands.items ≡ []
+IsReachedPlace code first reached.End work = Unit {0}

@@ -43,9 +43,9 @@ abbrev pub ticks_after_it : CodeLists → ℕ → List ℕ → Workspace → Opt
 ticks_after_it code i chosen work None = ticks_from code (i + 1) chosen work
 ticks_after_it code i chosen work (Some went) = no_ticks
 
-abbrev pub IsCleanBehind : CodeLists → ℕ → Option Went → Workspace → Type 0
-IsCleanBehind code i None work = HoldsFrom code (i + 1) work
-IsCleanBehind code i (Some went) work = IsClean went work.operands.items
+abbrev pub IsCleanAfter : CodeLists → ℕ → Option Went → Workspace → Type 0
+IsCleanAfter code i None work = HoldsFrom code (i + 1) work
+IsCleanAfter code i (Some went) work = IsClean went work.operands.items
 
 -- the piece of a Turn
 abbrev pub piece_of : Option Instr → Option ℕ

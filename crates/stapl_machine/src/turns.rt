@@ -10,8 +10,8 @@ ghost use Rattle.stapl_instructions.specs.Moves.{led_on, IsClean};
 ghost use Rattle.written_cable.specs.Pins.{tap_of};
 ghost use Rattle.machine_memory.specs.RunRooms.{HasRoom, KeepsRoom};
 ghost use Rattle.written_cable.specs.Ports.{IsOpenPort, DoesDeeds, DoesScan, DoesCapture, IsDone, Keeps};
-ghost use Rattle.stapl_machine.specs.Reaches.{after_try, ticks_after_try, IsCleanTry, after_reached, ticks_after_reached, IsReached};
-ghost use Rattle.stapl_machine.specs.Turns.{HasRoomFrom, rest_of, ticks_from, no_ticks, after_it, ticks_after_it, IsCleanBehind, piece_of, turn_at, ticks_at};
+ghost use Rattle.stapl_machine.specs.Reaches.{after_try, ticks_after_try, IsCleanTry, after_reached, ticks_after_reached, IsReachedPlace};
+ghost use Rattle.stapl_machine.specs.Turns.{HasRoomFrom, rest_of, ticks_from, no_ticks, after_it, ticks_after_it, IsCleanAfter, piece_of, turn_at, ticks_at};
 
 use base::Steps;
 use machine_memory::effects::{Doing, ScanJob, Wait};
@@ -195,7 +195,7 @@ fn carry_out<C: Cable, O: Paper, L: Ledger>(
     ensures does { IsDone C.Cable O.Paper
         (rest_of code.now i chosen.now work.old) (ticks_from code.now i chosen.now work.old) port.old steps.old result
         (after_it code.now i chosen.now work.new) (ticks_after_it code.now i chosen.now work.new) port.new steps.new }
-    ensures clean { IfOk result (λ end. IsCleanBehind code.now i end work.new) }
+    ensures clean { IfOk result (λ end. IsCleanAfter code.now i end work.new) }
     ensures room { KeepsRoom work.old work.new }
     ensures keeps { Keeps C.Cable O.Paper port.old port.new result }
 {
@@ -278,7 +278,7 @@ fn carry_out_common<L: Ledger>(
     ensures ticks { (chosen : List ℕ) (k : Chain) →
         steps.new + ticks_after_reached code.now chosen result work.new k
         ≡ steps.old + ticks_from code.now from chosen work.old k }
-    ensures reached { IsReached code.now from result work.new }
+    ensures reached { IsReachedPlace code.now from result work.new }
     ensures room { KeepsRoom work.old work.new }
 {
     for i in from..code.instrs.len() {

@@ -7,7 +7,7 @@ use Rattle.stapl_syntax.specs.declared.statement.Stmt.{Stmt}
 use Rattle.stapl_syntax.specs.Trees.{StmtTree, stmt_tree}
 use Rattle.stapl_syntax.specs.Names.{Numbered, with_numbers, inside_next, key_eq, put_option, firsts, firsts_after, declared, declared_from, block_of, action_of, variable_of, label_of, names_of}
 use Rattle.stapl_names.specs.declared.tables.Tables.{Tables}
-use Rattle.stapl_names.specs.Tables.{AreUsed, AreSpelled, Puts, names_in}
+use Rattle.stapl_names.specs.Tables.{AreUsed, AreSpelled, PutsNames, names_in}
 
 -- the tables, this block being open, so far that these statements are left of all
 pub record AreUnderWay (t : Tables) (inside : Option (List ℕ)) (left all : List Numbered) : Type 0 where
@@ -43,7 +43,7 @@ module _ {K V : Type 0} (eq : K → K → Bool) (declares : Option (List ℕ) �
       ∙ so_far
 
 statement_more : (old new : Tables) (inside then : Option (List ℕ)) (s : Numbered) (rest all : List Numbered) → then ≡ inside_next inside s.statement.body
-    → AreUnderWay old inside (s ∷ rest) all → Puts inside s.piece s.statement old new → AreUnderWay new then rest all
+    → AreUnderWay old inside (s ∷ rest) all → PutsNames inside s.piece s.statement old new → AreUnderWay new then rest all
 statement_more old new inside then s rest all goes so_far puts = record {
   blocks = one_more bytes_eq block_of inside then s rest _ _ _ goes so_far.blocks puts.blocks;
   actions = one_more bytes_eq action_of inside then s rest _ _ _ goes so_far.actions puts.actions;
@@ -56,7 +56,7 @@ statement_more old new inside then s rest all goes so_far puts = record {
 -- a statement more
 pub under_way_more : (ns : List ℕ) (sts : List Stmt) (i d : ℕ) (st : Stmt) (old new : Tables) (inside then : Option (List ℕ)) (all : List Numbered)
     → length ns ≡ length sts → i < length sts → st ≡ get_or sts i st → then ≡ inside_next inside (stmt_tree st).body
-    → AreUnderWay old inside (left_from ns sts i) all → Puts inside (get_or ns i d) (stmt_tree st) old new
+    → AreUnderWay old inside (left_from ns sts i) all → PutsNames inside (get_or ns i d) (stmt_tree st) old new
     → AreUnderWay new then (left_from ns sts (i + 1)) all
 under_way_more ns sts i d st old new inside then all alike within is goes so_far puts =
     statement_more old new inside then (record { piece = get_or ns i d; statement = stmt_tree st }) (left_from ns sts (i + 1)) all goes

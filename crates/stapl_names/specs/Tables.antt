@@ -79,22 +79,22 @@ abbrev pub AreSpelled : Variables → Type 0
 AreSpelled vs = (name : List ℕ) → spelled_as vs.spelled name ≡ numbers_from name 0 vs.table.entries
 
 -- a table after an entry was put into it, if there is one
-abbrev pub HasPut : {K V S : Type 0} → (K → K → Bool) → IndexMap K V S → Option (K × V) → IndexMap K V S → Type 0
-HasPut eq old entry new = new.entries ≡ put_option eq old.entries entry
+abbrev pub HasPutEntry : {K V S : Type 0} → (K → K → Bool) → IndexMap K V S → Option (K × V) → IndexMap K V S → Type 0
+HasPutEntry eq old entry new = new.entries ≡ put_option eq old.entries entry
 
 -- the same of the table of blocks, and of the table of variables
 abbrev pub HasBlock : Blocks → Option (List ℕ × Block) → Blocks → Type 0
-HasBlock old entry new = HasPut bytes_eq old.table entry new.table
+HasBlock old entry new = HasPutEntry bytes_eq old.table entry new.table
 
 abbrev pub HasVariable : Variables → Option (Key × Variable) → Variables → Type 0
-HasVariable old entry new = HasPut key_eq old.table entry new.table
+HasVariable old entry new = HasPutEntry key_eq old.table entry new.table
 
 -- the tables after the statement of the piece with this number, before which this block is open
-pub record Puts (inside : Option (List ℕ)) (number : ℕ) (st : StmtTree) (old new : Tables) : Type 0 where
+pub record PutsNames (inside : Option (List ℕ)) (number : ℕ) (st : StmtTree) (old new : Tables) : Type 0 where
   pub blocks : HasBlock old.blocks (block_of inside number st) new.blocks
-  pub actions : HasPut bytes_eq old.actions (action_of inside number st) new.actions
+  pub actions : HasPutEntry bytes_eq old.actions (action_of inside number st) new.actions
   pub variables : HasVariable old.variables (variable_of inside number st) new.variables
-  pub labels : HasPut key_eq old.labels (label_of inside number st) new.labels
+  pub labels : HasPutEntry key_eq old.labels (label_of inside number st) new.labels
   pub used : AreUsed new.blocks
   pub spelled : AreSpelled new.variables
 

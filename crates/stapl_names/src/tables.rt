@@ -6,7 +6,7 @@ ghost use Rattle.std.specs.Option.{option_map};
 ghost use Rattle.std.specs.Str.{bytes_eq};
 ghost use Rattle.stapl_syntax.specs.Trees.{body_tree, stmt_tree};
 ghost use Rattle.stapl_syntax.specs.Names.{inside_next, action_of_body, label_in, key_eq, put_first};
-ghost use Rattle.stapl_names.specs.Tables.{HasPut, AreUsed, AreSpelled, Puts};
+ghost use Rattle.stapl_names.specs.Tables.{HasPutEntry, AreUsed, AreSpelled, PutsNames};
 
 use crate::blocks::Blocks;
 use crate::variables::Variables;
@@ -25,8 +25,8 @@ pub(crate) struct Tables {
     pub(crate) labels: IndexMap<Key, u32>,
 }
 
-/// Puts an entry last, if none has its key yet.
-#[tactic(auto, using(crate::proofs::Puts::put_new))]
+/// PutsNames an entry last, if none has its key yet.
+#[tactic(auto, using(crate::proofs::PutsNames::put_new))]
 pub(crate) fn put<K: Eq + Hash + Drop, V: Drop>(
     map: &mut IndexMap<K, V>,
     key: K,
@@ -65,9 +65,9 @@ pub fn inside_next(inside: &Option<Name>, body: &Body) -> Option<Name>
     }
 }
 
-// Puts the action that a statement declares.
+// PutsNames the action that a statement declares.
 fn put_action(actions: &mut IndexMap<Name, u32>, number: u32, body: &Body) -> Result<(), AllocError>
-    ensures { OnOk result (HasPut bytes_eq actions.old (action_of_body number (body_tree body.now)) actions.new) }
+    ensures { OnOk result (HasPutEntry bytes_eq actions.old (action_of_body number (body_tree body.now)) actions.new) }
 {
     match body {
         Body::Action(name, _, _) => {
@@ -78,14 +78,14 @@ fn put_action(actions: &mut IndexMap<Name, u32>, number: u32, body: &Body) -> Re
     }
 }
 
-// Puts the label of a statement in the open block.
+// PutsNames the label of a statement in the open block.
 fn put_label(
     labels: &mut IndexMap<Key, u32>,
     inside: &Option<Name>,
     number: u32,
     label: &Option<Box<Name>>,
 ) -> Result<(), AllocError>
-    ensures { OnOk result (HasPut key_eq labels.old (label_in inside.now number (option_map box_value label.now)) labels.new) }
+    ensures { OnOk result (HasPutEntry key_eq labels.old (label_in inside.now number (option_map box_value label.now)) labels.new) }
 {
     let Some(block) = inside else {
         return Ok(());
@@ -128,7 +128,7 @@ impl Tables {
         }
     }
 
-    /// Puts what the statement of the piece with this number declares, if this block is open before it.
+    /// PutsNames what the statement of the piece with this number declares, if this block is open before it.
     pub(crate) fn put_statement(
         &mut self,
         alloc: Global,
@@ -138,7 +138,7 @@ impl Tables {
     ) -> Result<(), AllocError>
         requires used { AreUsed self.old.blocks }
         requires spelled { AreSpelled self.old.variables }
-        ensures { OnOk result (Puts inside.now number (stmt_tree st.now) self.old self.new) }
+        ensures { OnOk result (PutsNames inside.now number (stmt_tree st.now) self.old self.new) }
     {
         self.blocks.put_begun(alloc, number, &st.body)?;
         put_action(&mut self.actions, number, &st.body)?;

@@ -18,7 +18,7 @@ ghost use Rattle.meaning_laws.specs.ExprFaults.{ExprBreaks};
 ghost use Rattle.meaning_laws.specs.PartFaults.{IsPartFault};
 ghost use Rattle.meaning_laws.specs.RowFaults.{HasShortArray, HasBadLength, HasBadCount, HasZeroStep, LacksRecord};
 ghost use Rattle.meaning_laws.specs.RowFaults.{LacksRoom};
-ghost use Rattle.meaning_laws.specs.TurnFaults.{Reaches, TurnBreaks, ReachesBrokenPart, EndsWith, EndsByTable};
+ghost use Rattle.meaning_laws.specs.TurnFaults.{Reaches, TurnBreaks, ReachesBrokenPart, EndsWithFault, EndsByTable};
 ghost use Rattle.meaning_laws.specs.TurnFaults.{NeverFaults};
 
 /// An expression breaks with a fault by the table exactly if that fault is found in place of its value.
@@ -31,7 +31,7 @@ pub fn expressions_break_by_the_table()
 /// state is as it was. No turn ends with a fault in another way.
 pub fn turns_break_by_the_table()
     ensures breaks { (program : Played) (i : ℕ) (s : State) (k : RunFault) → TurnBreaks program i s k →
-        EndsWith program i s k }
+        EndsWithFault program i s k }
     ensures only { (program : Played) (i : ℕ) (s t : State) (deeds : List Deed) (k : RunFault) (piece : ℕ) →
         turn program i s ≡ Over deeds (Fault k piece) t → EndsByTable program i s deeds k piece t }
 {}
@@ -46,26 +46,26 @@ pub fn a_turn_has_one_fault()
 /// other order, so programs never end with RangeReversed.
 pub fn where_each_fault_comes()
     ensures divide_by_zero { (program : Played) (i : ℕ) (s : State) →
-        EndsWith program i s faults.DivideByZero ↔ ReachesBrokenPart program i s faults.DivideByZero }
+        EndsWithFault program i s faults.DivideByZero ↔ ReachesBrokenPart program i s faults.DivideByZero }
     ensures index_out_of_range { (program : Played) (i : ℕ) (s : State) →
-        EndsWith program i s faults.IndexOutOfRange ↔ ReachesBrokenPart program i s faults.IndexOutOfRange }
-    ensures range_reversed { (program : Played) (i : ℕ) (s : State) → ¬ EndsWith program i s faults.RangeReversed }
+        EndsWithFault program i s faults.IndexOutOfRange ↔ ReachesBrokenPart program i s faults.IndexOutOfRange }
+    ensures range_reversed { (program : Played) (i : ℕ) (s : State) → ¬ EndsWithFault program i s faults.RangeReversed }
     ensures length_mismatch { (program : Played) (i : ℕ) (s : State) →
-        EndsWith program i s faults.LengthMismatch ↔ Reaches program i s HasShortArray }
+        EndsWithFault program i s faults.LengthMismatch ↔ Reaches program i s HasShortArray }
     ensures bad_length { (program : Played) (i : ℕ) (s : State) →
-        EndsWith program i s faults.BadLength ↔ Reaches program i s HasBadLength }
+        EndsWithFault program i s faults.BadLength ↔ Reaches program i s HasBadLength }
     ensures bad_count { (program : Played) (i : ℕ) (s : State) →
-        EndsWith program i s faults.BadCount ↔ Reaches program i s HasBadCount }
+        EndsWithFault program i s faults.BadCount ↔ Reaches program i s HasBadCount }
     ensures shift_count { (program : Played) (i : ℕ) (s : State) →
-        EndsWith program i s faults.ShiftCount ↔ ReachesBrokenPart program i s faults.ShiftCount }
+        EndsWithFault program i s faults.ShiftCount ↔ ReachesBrokenPart program i s faults.ShiftCount }
     ensures zero_step { (program : Played) (i : ℕ) (s : State) →
-        EndsWith program i s faults.ZeroStep ↔ Reaches program i s HasZeroStep }
+        EndsWithFault program i s faults.ZeroStep ↔ Reaches program i s HasZeroStep }
     ensures no_record { (program : Played) (i : ℕ) (s : State) →
-        EndsWith program i s faults.NoRecord ↔ Reaches program i s LacksRecord }
+        EndsWithFault program i s faults.NoRecord ↔ Reaches program i s LacksRecord }
     ensures records_full { (program : Played) (i : ℕ) (s : State) →
-        EndsWith program i s faults.RecordsFull ↔ Reaches program i s LacksRoom }
+        EndsWithFault program i s faults.RecordsFull ↔ Reaches program i s LacksRoom }
     ensures bad_char { (program : Played) (i : ℕ) (s : State) →
-        EndsWith program i s faults.BadChar ↔ ReachesBrokenPart program i s faults.BadChar }
+        EndsWithFault program i s faults.BadChar ↔ ReachesBrokenPart program i s faults.BadChar }
 {}
 
 /// If all operands of a statement have values, what it does breaks with none of the faults of parts, nor with

@@ -1,14 +1,14 @@
 use Rattle.std.proofs.Common.{◌≡◌, ◌<◌, [], ℕ, List, All, Ok, subst, ap, ◌∙◌}
 use Rattle.std.proofs.lemmas.List.Elements.{All-from_get_or}
 use Rattle.code_files.specs.declared.fault.Stop.{Stop}
-use Rattle.code_files.specs.Reading.{Fails}
+use Rattle.code_files.specs.Reading.{ReadingFails}
 use Rattle.code_files.specs.ReadFiles.{code_at}
 use Rattle.code_files.proofs.FileFaults.{whole_file, none_left, some_left, names_broken, names_extra}
 use Rattle.code_files.proofs.decoding.whole_code.Goals as goal
 
 pub returns-in-Err-At-clause-refused : goal.returns-in-Err-At-clause-refused
 returns-in-Err-At-clause-refused c =
-    let read = subst (λ (s : Stop). Fails s (code_at c.args.bytes.now)) c.in-Err-At.field-0-is c.in-Err-At.ensures in
+    let read = subst (λ (s : Stop). ReadingFails s (code_at c.args.bytes.now)) c.in-Err-At.field-0-is c.in-Err-At.ensures in
     names_broken c.args.bytes.now c.in-Err-At.fault c.faulty.result c.requires read c.faulty.ensures
 
 pub returns-then-is_empty-clause-file : goal.returns-then-is_empty-clause-file

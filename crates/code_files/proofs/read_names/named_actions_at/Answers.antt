@@ -1,7 +1,7 @@
 use Rattle.std.proofs.Common.{◌≡◌, ◌++◌, ◌∷◌, [], subst, sym, ◌∙◌}
 use Rattle.std.proofs.lemmas.Result.{err_from_is_err_and}
 use Rattle.stapl_code.specs.declared.raw.ActionDef.{ActionDef}
-use Rattle.code_files.specs.Reading.{Fails, items_at}
+use Rattle.code_files.specs.Reading.{ReadingFails, items_at}
 use Rattle.code_files.specs.ReadFiles.{action_among, action_at}
 use Rattle.code_files.proofs.Loops.{goes_on, ends, is_done}
 use Rattle.code_files.proofs.NameFields.{names_next, action_after}
@@ -15,7 +15,7 @@ returns-in_err-item c =
     let p = err_from_is_err_and c.from_residual.result c.from_residual.ensures.1 in
     rw (p.1, p.2) (ends (action_at c.args.procedures) c.in_err-item.field-0.0 items c.args.count c.loop.counter c.loop.rest.now
     (items_at (action_at c.args.procedures) [] c.args.count c.args.bytes.now) c.loop-test.true
-    (subst (Fails c.in_err-item.field-0.0) same c.in_err-item.ensures.gives) c.loop.invariant.read)
+    (subst (ReadingFails c.in_err-item.field-0.0) same c.in_err-item.ensures.gives) c.loop.invariant.read)
 
 pub loop-preserved : goal.loop-preserved
 loop-preserved c =

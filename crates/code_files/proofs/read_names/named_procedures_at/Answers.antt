@@ -1,6 +1,6 @@
 use Rattle.std.proofs.Common.{◌≡◌, ◌++◌, ◌∷◌, [], subst, refl, sym, ◌∙◌}
 use Rattle.stapl_code.specs.declared.raw.ProcDef.{ProcDef}
-use Rattle.code_files.specs.Reading.{Fails, items_at}
+use Rattle.code_files.specs.Reading.{ReadingFails, items_at}
 use Rattle.code_files.specs.ReadFiles.{procedure_among, procedure_at}
 use Rattle.code_files.proofs.Entries.{least_push}
 use Rattle.code_files.proofs.Loops.{goes_on, ends, is_done}
@@ -13,7 +13,7 @@ returns-in-Err c =
     let same : procedure_among c.loop.names.keys c.loop.least c.loop.rest.now ≡ procedure_at items c.loop.rest.now =
     procedure_after items c.loop.names.keys c.loop.least c.loop.rest.now c.loop.invariant.names c.loop.invariant.least in
     ends procedure_at c.in-Err.stop items c.args.count c.loop.counter c.loop.rest.now (items_at procedure_at [] c.args.count c.args.bytes.now)
-    c.loop-test.true (subst (Fails c.in-Err.stop) same c.in-Err.ensures.gives) c.loop.invariant.read
+    c.loop-test.true (subst (ReadingFails c.in-Err.stop) same c.in-Err.ensures.gives) c.loop.invariant.read
 
 pub loop-preserved : goal.loop-preserved
 loop-preserved c =

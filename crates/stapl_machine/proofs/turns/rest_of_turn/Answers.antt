@@ -2,7 +2,7 @@ use Rattle.std.proofs.Common.{refl, ◌+◌, None, subst, arith}
 use Rattle.stapl_instructions.specs.declared.control.Went.TheVariants as went
 use Rattle.machine_memory.specs.Acts.{state_of}
 use Rattle.stapl_instructions.specs.Moves.{led_on}
-use Rattle.stapl_machine.specs.Turns.{rest_of, ticks_from, no_ticks, after_it, ticks_after_it, IsCleanBehind}
+use Rattle.stapl_machine.specs.Turns.{rest_of, ticks_from, no_ticks, after_it, ticks_after_it, IsCleanAfter}
 use Rattle.written_cable.proofs.DeedLemmas.{kept_none, kept_both}
 use Rattle.stapl_instructions.proofs.OperandLemmas.{room_kept}
 use Rattle.stapl_machine.proofs.TurnLemmas.{does_still, does_same, does_of, front_of, does_both, does_both_front}
@@ -34,7 +34,7 @@ parts-preserved g c =
         omega (arith, c.parts.invariant.kept_room.0, c.carry_out_common.ensures.room.0, c.carry_out.ensures.room.0),
         omega (arith, c.parts.invariant.kept_room.1, c.carry_out_common.ensures.room.1, c.carry_out.ensures.room.1),
       );
-      few = subst (λ e. IsCleanBehind code i e new) c.in-Ok-None.field-0-is c.in-Ok-None.ensures.clean;
+      few = subst (λ e. IsCleanAfter code i e new) c.in-Ok-None.field-0-is c.in-Ok-None.ensures.clean;
       does =
           does_both m s g.met.C.Cable.both_made c.args.port.now c.parts.port c.carry_out.new.port (rest_of code c.args.from chosen first)
           (rest_of code c.parts.place chosen old) (rest_of code (i + 1) chosen new)

@@ -1,6 +1,6 @@
 use Rattle.std.proofs.Common.{false, length, replicate, ap, ◌∙◌}
 use Rattle.std.proofs.lemmas.List.{length-replicate}
-use Rattle.dev_kinds.specs.Memories.{Store}
+use Rattle.dev_kinds.specs.Memories.{MemoryStore}
 use Rattle.dev_kinds.proofs.MemoryLemmas.{filled_items, filled_store, store_is_fresh}
 use Rattle.dev_kinds.proofs.memory.Memory.clear.Goals as goal
 
@@ -20,4 +20,4 @@ returns c =
     let zeros = c.fill_bits.ensures ∙ ap (λ n. replicate n false) c.self.invariant.address_length in
     let words = filled_items m.words f m.address m.buffer c.deref_mut.result.now c.fill_words.new.words f.fill c.self.invariant c.deref_mut.ensures.value
     c.deref_mut.ensures.len c.fill_words.ensures in
-    store_is_fresh f c.args.self.now.shape c.fill_bits.new.bits _ (ap (λ (s : Store). s.shape) c.self.view_is) zeros words
+    store_is_fresh f c.args.self.now.shape c.fill_bits.new.bits _ (ap (λ (s : MemoryStore). s.shape) c.self.view_is) zeros words

@@ -1,7 +1,7 @@
 use Rattle.std.proofs.Common.{◌≡◌, ◌+◌, length, ap, sym, ◌∙◌, arith}
 use Rattle.base.specs.Bits.{number_of}
 use Rattle.base.proofs.NumberBits.{length-low_bits}
-use Rattle.dev_kinds.specs.Memories.{Store}
+use Rattle.dev_kinds.specs.Memories.{MemoryStore}
 use Rattle.dev_kinds.proofs.MemoryLemmas.{written_store, kept_store, programmed_width}
 use Rattle.dev_kinds.proofs.memory.Memory.program.Goals as goal
 use Rattle.dev_kinds.proofs.memory.Memory.program.Goals.{then-place-len, else-place-len}
@@ -12,7 +12,7 @@ invariant_of-self c =
     let f = m.shape in
     let h = c.self.invariant in
     let address : length c.raise.new.address ≡ 16 = ap length c.raise.ensures ∙ length-low_bits 16 (number_of c.if-place-len.self-inside.address + 1) in
-    let buffer : length c.give_bits.new.bits ≡ f.width = ap length c.give_bits.ensures ∙ c.requires ∙ sym (ap (λ (s : Store). s.shape.width) c.self.view_is) in
+    let buffer : length c.give_bits.new.bits ≡ f.width = ap length c.give_bits.ensures ∙ c.requires ∙ sym (ap (λ (s : MemoryStore). s.shape.width) c.self.view_is) in
     elim c.if-place-len.branch [
       | then-place-len w ↦ rw w.self-inside-is
           (written_store f m.address c.raise.new.address m.buffer c.give_bits.new.bits m.words.items

@@ -2,7 +2,7 @@ use Rattle.std.proofs.Common.{ℕ, List, map, string_bytes, Global, refl, sym, s
 use Rattle.tool_frame.proofs.AnswerLemmas.{says_within, says_failed, said_text, said_front}
 use Rattle.play_tool.proofs.RequestLemmas.{of_request, of_no_request, of_any_words, reached_by}
 use Rattle.quiet_tool.specs.declared.status.QuietStatus.TheVariants.{Usage}
-use Rattle.quiet_tool.specs.Words.{play_words, HasUsage, IsRefused}
+use Rattle.quiet_tool.specs.Words.{play_words, HasUsage, AreRefused}
 use Rattle.quiet_tool.specs.Answers.{usage}
 use Rattle.quiet_tool.proofs.WordLemmas.{usage_is, no_request}
 use Rattle.quiet_tool.proofs.AnswerLemmas.{request_in_words}
@@ -26,7 +26,7 @@ returns-in-Ok-clause-shelf g c = record {
 pub returns-in_err-put_usage-in-Err-Usage-clause-answers : goal.returns-in_err-put_usage-in-Err-Usage-clause-answers
 returns-in_err-put_usage-in-Err-Usage-clause-answers g c =
     let words : List (List ℕ) = map (string_bytes {Z = Global}) c.args.words.now in
-    let refused : HasUsage words c.in-Err-Usage.n = subst (IsRefused words) c.in-Err-Usage.field-0-is c.in-Err-Usage.ensures.refused in
+    let refused : HasUsage words c.in-Err-Usage.n = subst (AreRefused words) c.in-Err-Usage.field-0-is c.in-Err-Usage.ensures.refused in
     of_no_request (g.S.Shelf.told c.args.shelf.now) (no_request words _ refused) (λ contents. record {
       says = says_failed _ _ _ _ _ c.from_residual.result c.from_residual.ensures.1
           (said_front _ (Usage _) (usage _ (usage_is (sym c.in-Err-Usage.n-is) refused)) c.in_err-put_usage-in-Err-Usage.ensures);
@@ -36,7 +36,7 @@ returns-in_err-put_usage-in-Err-Usage-clause-answers g c =
 pub returns-in_ok-put_usage-in-Err-Usage-clause-answers : goal.returns-in_ok-put_usage-in-Err-Usage-clause-answers
 returns-in_ok-put_usage-in-Err-Usage-clause-answers g c =
     let words : List (List ℕ) = map (string_bytes {Z = Global}) c.args.words.now in
-    let refused : HasUsage words c.in-Err-Usage.n = subst (IsRefused words) c.in-Err-Usage.field-0-is c.in-Err-Usage.ensures.refused in
+    let refused : HasUsage words c.in-Err-Usage.n = subst (AreRefused words) c.in-Err-Usage.field-0-is c.in-Err-Usage.ensures.refused in
     of_no_request (g.S.Shelf.told c.args.shelf.now) (no_request words _ refused) (λ contents. record {
       says = said_text _ (usage _ (usage_is (sym c.in-Err-Usage.n-is) refused)) c.in_ok-put_usage-in-Err-Usage.ensures;
       left = tt;
