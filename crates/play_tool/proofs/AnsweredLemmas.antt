@@ -102,6 +102,7 @@ pub record Known : Type 0 where
   pub valid : (program : Played) → IsAccepted program → IsValid (lists_of program)
   pub code : (program : Played) → IsAccepted program → IsCodeOf program (lists_of program)
   pub short : (text : List ℕ) (program : List StmtTree) → IsProgram text program → length (file (lists_of (as_played program))) ≤ 64 * length text + 64
+  pub fits : (text : List ℕ) (program : List StmtTree) → IsProgram text program → IsFitting (lists_of (as_played program))
   pub never : NeverStuck
 
 -- the text of a program is not too long, and so neither is the file of its code
@@ -117,8 +118,8 @@ module _ (known : Known) where
       let c = code_answered known.never code (known.in_range (as_played program) took) (known.valid (as_played program) took) request devices in
       (c.0, c.1, (code_to_program program code request devices (known.typed bytes program is) (known.code (as_played program) took)).to c.0 c.1 c.2)
 
-  compile_answered : (bytes : List ℕ) (program : List StmtTree) → IsProgram bytes program → IsFitting (lists_of (as_played program)) → HasAnswer (Compiles program)
-  compile_answered bytes program is fits =
+  compile_answered : (bytes : List ℕ) (program : List StmtTree) → IsProgram bytes program → HasAnswer (Compiles program)
+  compile_answered bytes program is =
       let code = lists_of (as_played program) in
       let took = known.taken bytes program is in (
         file code,
@@ -127,7 +128,7 @@ module _ (known : Known) where
           file = refl;
           has = record {
             in_range = known.in_range (as_played program) took;
-            fitting = fits;
+            fitting = known.fits bytes program is;
             short = record { most = short_file bytes program is (known.short bytes program is) };
           };
           valid = known.valid (as_played program) took;
@@ -182,8 +183,8 @@ module _ (known : Known) where
       held_answered (λ bytes. TextAnswer (Works Lists bytes) bytes) _ held
       (text_answered (Works Lists held.bytes) held.bytes (λ program is. (list_text program, statuses.Done (pos 0), record { said = refl; done = refl })))
   request_answered (requests.Compile path) contents held =
-      held_answered (λ bytes. TextAnswer (Works Compile bytes) bytes) _ held.source
-      (text_answered (Works Compile held.source.bytes) held.source.bytes (λ program is. compile_answered held.source.bytes program is (held.fits program is)))
+      held_answered (λ bytes. TextAnswer (Works Compile bytes) bytes) _ held
+      (text_answered (Works Compile held.bytes) held.bytes (compile_answered held.bytes))
   request_answered (requests.Soak seed) contents held =
       let a = play_answer (soak_request seed) _ _ (record { bytes = _; there = refl }) (record { bytes = _; there = refl }) in
       (soak_head seed ++ a.0, a.1, record { rest = a.0; text_is = refl; play = a.2 })

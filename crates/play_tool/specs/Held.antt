@@ -1,10 +1,5 @@
 -- Files that are held of a request. The rules are this tool's own.
 use Rattle.std.specs.Prelude.{◌≡◌, ℕ, ◌<◌, List, Option, Some, All}
-use Rattle.stapl_syntax.specs.Trees.{StmtTree}
-use Rattle.stapl_syntax.specs.Programs.{IsProgram}
-use Rattle.stapl_meaning.specs.Scopes.{as_played}
-use Rattle.stapl_code.specs.Files.{IsFitting}
-use Rattle.stapl_codegen.specs.Generated.{lists_of}
 use Rattle.play_words.specs.declared.requests.Request.{Request}
 use Rattle.play_words.specs.declared.requests.Request.TheVariants as requests
 use Rattle.tool_frame.specs.Files.{first_of, second_of}
@@ -25,17 +20,11 @@ pub record AreCodeFilesHeld (contents : List (Option (List ℕ))) : Type 0 where
   pub source : IsHeld (second_of contents)
   pub are_bytes : All (λ b. b < 256) source.bytes
 
--- A program is held, and the numbers of its code have four bytes each, as those of each code have that the compiler
--- makes.
-pub record IsCompiledHeld (held : Option (List ℕ)) : Type 0 where
-  pub source : IsHeld held
-  pub fits : (program : List StmtTree) → IsProgram source.bytes program → IsFitting (lists_of (as_played program))
-
 -- The files that a request names are held.
 abbrev pub AreHeld : Request → List (Option (List ℕ)) → Type 0
 AreHeld (requests.Play play) contents = ArePlayFilesHeld contents
 AreHeld (requests.Run play) contents = AreCodeFilesHeld contents
 AreHeld (requests.Check path) contents = IsHeld (first_of contents)
 AreHeld (requests.List path) contents = IsHeld (first_of contents)
-AreHeld (requests.Compile path) contents = IsCompiledHeld (first_of contents)
+AreHeld (requests.Compile path) contents = IsHeld (first_of contents)
 AreHeld (requests.Soak seed) contents = Unit {0}

@@ -14,7 +14,9 @@ use code_files::laws::bytes_are_a_file_or_have_a_fault;
 use program_reports::laws::each_program_has_a_check_text;
 use stapl_checker::laws::each_text_is_a_program_or_has_a_fault;
 use stapl_code::laws::never_stuck;
-use stapl_codegen::laws::{accepted_code_is_valid, files_are_short, programs_are_accepted};
+use stapl_codegen::laws::{
+    accepted_code_is_valid, codes_of_programs_fit, files_are_short, programs_are_accepted,
+};
 use stapl_meaning::laws::programs_are_typed;
 
 /// The words and the files have at most one answer.
@@ -36,6 +38,7 @@ pub fn requests_are_answered()
     programs_are_accepted();
     accepted_code_is_valid();
     files_are_short();
+    codes_of_programs_fit();
     never_stuck();
 }
 

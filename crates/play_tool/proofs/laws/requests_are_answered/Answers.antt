@@ -14,5 +14,6 @@ returns c = λ request contents held.
       valid = c.accepted_code_is_valid.ensures.valid;
       code = c.accepted_code_is_valid.ensures.code;
       short = c.files_are_short.ensures;
+      fits = c.codes_of_programs_fit.ensures;
       never = c.never_stuck.ensures;
     }) request contents held
