@@ -42,7 +42,7 @@ use Rattle.play_words.specs.Statuses.{IsOfPlay, ComesBeforeFitting}
 use Rattle.command_words.specs.declared.place_run.PlaceRun.{PlaceRun}
 use Rattle.play_words.specs.declared.requests.PlayRequest.{PlayRequest}
 use Rattle.code_plays.specs.Plays.{done_with, has_place, reported_far, asked_text, Plays, played}
-use Rattle.code_plays.specs.CodePlays.{NeverRises, HasEnding, line_of, run_lines, Ends, IsPlayOf, PutsText}
+use Rattle.code_plays.specs.CodePlays.{PlaysRun, NeverRises, HasEnding, line_of, run_lines, Ends, IsPlayOf}
 use Rattle.code_plays.specs.Racks.{far_at, AreLeft, KeepsRack}
 
 -- A run that does not stop comes to an ending.
@@ -75,9 +75,16 @@ lines_are request run ending e =
     ap (λ (o : Option Ending). events_text request.pins [] run.events ++ asked_report request.report (reported_far request.place run.chain.far) ++ line_of o) e
 
 -- at the exit of a `?`
-pub text_failed : {K T E : Type 0} {sink : SinkOf K} {a b : Lines K} {xs : List ℕ} (r : Result T E) → IsErr r → PutsFront sink a xs b → PutsText sink a xs b r
-text_failed (Ok x) is front = absurd cc
-text_failed (Err e) is front = front
+pub run_failed : {K E : Type 0} {sink : SinkOf K} {text : List ℕ} {a b : Lines K} (run : Run) (Left : Type 0) (r : Result Ending E) → IsErr r → PutsFront sink a text b →
+    PlaysRun sink run text Left a b r
+run_failed run Left (Ok x) is front = absurd cc
+run_failed run Left (Err e) is front = front
+
+-- the same play, and what it leaves in other words
+pub left_as : {K E P Q : Type 0} (sink : SinkOf K) (run : Run) (text : List ℕ) (a b : Lines K) (r : Result Ending E) → (P → Q) → PlaysRun sink run text P a b r →
+    PlaysRun sink run text Q a b r
+left_as sink run text a b (Ok x) f p = record { put = p.put; ended = p.ended; left = f p.left }
+left_as sink run text a b (Err e) f p = p
 
 -- those of the events failed, or the report, or the line of the ending; or all were put
 pub events_failed : {K : Type 0} {sink : SinkOf K} {a b : Lines K} (request : PlayRequest) (run : Run) →
@@ -163,10 +170,6 @@ rack_as {fitted = fitted} {after = after} (Ok status) to back f k = record {
   other = λ never. k.other (λ p. never (to p));
 }
 rack_as (Err e) to back f k = record { kinds = k.kinds; early = tt; leaves = λ q. tt; other = λ never. k.other (λ p. never (to p)) }
-
-pub on_done : {T E P Q : Type 0} (r : Result T E) → (P → Q) → OnOk r P → OnOk r Q
-on_done (Ok x) f p = f p
-on_done (Err e) f p = tt
 
 -- What the devices are after a play: the board at its far end.
 

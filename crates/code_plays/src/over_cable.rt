@@ -1,18 +1,14 @@
 //! The play of a code over a cable that tells its board and never fails.
-ghost use Rattle.std.specs.Prelude.{◌≡◌, ◌≢◌, ◌<◌, [], true, length, map, Some, OnOk, IfOk};
+ghost use Rattle.std.specs.Prelude.{◌≡◌, ◌≢◌, ◌<◌, [], true};
 ghost use Rattle.tool_io.specs.Lines.{IsWhole};
-ghost use Rattle.scan_paths.specs.Cables.{whole, cable_faults, IsCableLast};
 ghost use Rattle.scan_paths.specs.Scans.{lengths_of};
-ghost use Rattle.dev_card.specs.Card.{fresh};
 ghost use Rattle.dev_card.specs.FarEnds.{far_end};
-ghost use Rattle.stapl_meaning.specs.Plays.{ending_of};
 ghost use Rattle.stapl_meaning.specs.Texts.{events_text};
-ghost use Rattle.stapl_code.specs.Safe.{AllBelow};
 ghost use Rattle.written_cable.specs.declared.trouble.Trouble.TheVariants as troubles;
 ghost use Rattle.stapl_machine.specs.Machines.{IsPrepared};
 ghost use Rattle.code_plays.specs.Plays.{has_place};
 ghost use Rattle.board_text.specs.Boards.{CanBeFitted};
-ghost use Rattle.code_plays.specs.CodePlays.{task_base, task_play, NeverRises, WasClocked, PutsText};
+ghost use Rattle.code_plays.specs.CodePlays.{task_base, task_play, IsPlayable, PlaysRun, IsSureCable, WasClocked};
 
 use crate::playing::Task;
 use base::Steps;
@@ -49,7 +45,8 @@ fn base_of(task: &Task) -> BasePads
 }
 
 /// Plays the chosen procedures of a code, as a task asks for it, over a cable that tells the fresh board of the task
-/// and never fails, and puts the lines of the events. Its steps are counted in a ledger that nobody asks.
+/// and never fails, and puts the lines of the events. Its steps are counted in a ledger that nobody asks, for which the
+/// caller makes the blank: so the proof of the caller picks the ledger.
 pub fn play_over_cable<C: Cable, K: Sink, L: Ledger>(
     machine: &mut Machine,
     code: &Code,
@@ -63,20 +60,14 @@ pub fn play_over_cable<C: Cable, K: Sink, L: Ledger>(
     requires parts { blank.parts ≡ L.parts }
     requires some { 0 < L.parts }
     requires prepared { IsPrepared code.now machine.old }
-    requires below { AllBelow (length code.now.procedures) chosen.now }
-    requires placed { has_place task.now.request.now.place task.now.devices.now ≡ true }
-    requires devices { CanBeFitted task.now.devices.now }
-    requires told { C.board cable.old ≡ Some (map fresh task.now.devices.now) }
-    requires whole_cable { C.breakage cable.old ≡ whole }
-    requires sure { NeverRises (cable_faults C.line_faults C.pin_faults) (IsCableLast C.is_line_last C.is_pin_last) }
+    requires playable { IsPlayable code.now chosen.now task.now }
+    requires cable { IsSureCable C.Cable task.now cable.old }
     requires whole { IsWhole lines.old }
-    ensures put { PutsText K.Sink lines.old (events_text task.now.request.now.pins []
-        (task_play code.now chosen.now task.now).events) lines.new result }
-    ensures ended { IfOk result (λ ending.
-        ending_of (task_play code.now chosen.now task.now).outcome ≡ Some ending) }
+    ensures plays { PlaysRun K.Sink (task_play code.now chosen.now task.now) (events_text task.now.request.now.pins []
+        (task_play code.now chosen.now task.now).events)
+        ((task_play code.now chosen.now task.now).chain.far ≡ far_end (C.board cable.new) [])
+        lines.old lines.new result }
     ensures clocked { WasClocked C.made cable.old cable.new }
-    ensures far { OnOk result ((task_play code.now chosen.now task.now).chain.far
-        ≡ far_end (C.board cable.new) []) }
 {
     let base = base_of(task);
     let (pins, turns) = (task.request.pins, task.request.turns);

@@ -1,24 +1,18 @@
 //! The play of a code.
-ghost use Rattle.std.specs.Prelude.{◌≡◌, [], true, length, map, Some, IsSomeAnd, IsTrue, OnOk, IfOk, IsErrOf};
+ghost use Rattle.std.specs.Prelude.{◌≡◌, [], true, length, map, OnOk, IfOk, IsErrOf};
 ghost use Rattle.tool_io.specs.Lines.{IsWhole, HasPut};
 ghost use Rattle.tool_frame.specs.Answers.{Says};
 ghost use Rattle.stapl_meaning.specs.Choices.{no_action, bad_choice, chosen};
-ghost use Rattle.stapl_meaning.specs.Plays.{ending_of};
 ghost use Rattle.stapl_meaning.specs.Texts.{events_text, far_report, asked_report};
 ghost use Rattle.stapl_code.specs.Safe.{AllBelow};
 ghost use Rattle.stapl_machine.specs.Machines.{IsPrepared};
 ghost use Rattle.stapl_player.specs.Choices.{code_choice};
-ghost use Rattle.dev_card.specs.Card.{fresh};
-ghost use Rattle.dev_card.specs.FarEnds.{far_end};
-ghost use Rattle.dev_card.specs.PaddedScan.{descriptions_of};
 ghost use Rattle.board_text.specs.Boards.{CanBeFitted};
-ghost use Rattle.scan_paths.specs.Cables.{whole, cable_faults, IsCableLast};
 ghost use Rattle.chain_sim.specs.Chains.{devices_of, chain_places};
 ghost use Rattle.chain_sim.specs.Chains.{IsOverSame as IsSameRack};
-ghost use Rattle.chain_sim.specs.Places.{cards_at, is_chain};
 ghost use Rattle.chain_sim.specs.Rack.{IsRack, places_of};
 ghost use Rattle.code_plays.specs.Plays.{done_with, has_place, reported_far, PlaysCode};
-ghost use Rattle.code_plays.specs.CodePlays.{task_play, NeverRises, WasClocked, HasEnding, run_lines, Ends, PutsText};
+ghost use Rattle.code_plays.specs.CodePlays.{task_play, IsPlayable, IsFittedAt, AreDescribedAt, PlaysRun, HasEnding, run_lines, Ends};
 ghost use Rattle.code_plays.specs.Racks.{far_at, AreLeft, CodeHoldsFinal, KeepsRack};
 
 use crate::endings::put_ending;
@@ -26,7 +20,6 @@ use crate::over_cable::play_over_cable;
 use chain_sim::{Chain, fit_board, put_report};
 use dev_card::{Desc, Device};
 use play_words::{PlayRequest, Status};
-use scan_paths::Cable;
 use stapl_code::laws::never_stuck;
 use stapl_machine::Machine;
 use stapl_meaning::Ending;
@@ -54,36 +47,8 @@ fn check_ending(code: &Code, chosen: &[u32], task: &Task)
     never_stuck();
 }
 
-// Plays the chosen procedures of a code, as the task asks for it, over a cable that tells the fresh board of the task
-// and never fails, and puts the lines of the events.
-fn play_chosen<C: Cable, K: Sink>(
-    machine: &mut Machine,
-    task: &Task,
-    code: &Code,
-    chosen: &[u32],
-    cable: &mut C,
-    lines: &mut Lines<K>,
-) -> Result<Ending, Failed>
-    requires prepared { IsPrepared code.now machine.old }
-    requires below { AllBelow (length code.now.procedures) chosen.now }
-    requires placed { has_place task.now.request.now.place task.now.devices.now ≡ true }
-    requires devices { CanBeFitted task.now.devices.now }
-    requires told { C.board cable.old ≡ Some (map fresh task.now.devices.now) }
-    requires whole_cable { C.breakage cable.old ≡ whole }
-    requires sure { NeverRises (cable_faults C.line_faults C.pin_faults) (IsCableLast C.is_line_last C.is_pin_last) }
-    requires whole { IsWhole lines.old }
-    ensures put { PutsText K.Sink lines.old (events_text task.now.request.now.pins []
-        (task_play code.now chosen.now task.now).events) lines.new result }
-    ensures ended { IfOk result (λ ending. ending_of (task_play code.now chosen.now task.now).outcome ≡ Some ending) }
-    ensures clocked { WasClocked C.made cable.old cable.new }
-    ensures far { OnOk result ((task_play code.now chosen.now task.now).chain.far
-        ≡ far_end (C.board cable.new) []) }
-{
-    let blank = Blank::new(1);
-    play_over_cable::<C, K, Brand>(machine, code, chosen, task, cable, lines, blank)
-}
-
-// The same over a chain, whose devices are then as the play leaves them.
+// Plays the chosen procedures of a code, as the task asks for it, over a chain with the fresh board of the task, and
+// puts the lines of the events. The devices of the chain are then as the play leaves them.
 fn play_over_chain<K: Sink>(
     machine: &mut Machine,
     task: &Task,
@@ -93,26 +58,22 @@ fn play_over_chain<K: Sink>(
     lines: &mut Lines<K>,
 ) -> Result<Ending, Failed>
     requires prepared { IsPrepared code.now machine.old }
-    requires below { AllBelow (length code.now.procedures) chosen.now }
-    requires placed { has_place task.now.request.now.place task.now.devices.now ≡ true }
-    requires devices { CanBeFitted task.now.devices.now }
-    requires chain { IsTrue (is_chain (map fitted (devices_of chain.old)) (chain_places chain.old)) }
-    requires cards { cards_at (map fitted (devices_of chain.old)) (chain_places chain.old)
-        ≡ Some (map fresh task.now.devices.now) }
+    requires playable { IsPlayable code.now chosen.now task.now }
+    requires fitted { IsFittedAt (map fitted (devices_of chain.old)) (chain_places chain.old) task.now }
     requires whole { IsWhole lines.old }
-    ensures put { PutsText K.Sink lines.old (events_text task.now.request.now.pins []
-        (task_play code.now chosen.now task.now).events) lines.new result }
-    ensures ended { IfOk result (λ ending. ending_of (task_play code.now chosen.now task.now).outcome ≡ Some ending) }
-    ensures left { OnOk result (AreLeft (map fitted (devices_of chain.new)) (chain_places chain.old)
-        task.now.devices.now (task_play code.now chosen.now task.now).chain.far) }
+    ensures plays { PlaysRun K.Sink (task_play code.now chosen.now task.now) (events_text task.now.request.now.pins []
+        (task_play code.now chosen.now task.now).events) (AreLeft (map fitted (devices_of chain.new))
+        (chain_places chain.old) task.now.devices.now (task_play code.now chosen.now task.now).chain.far)
+        lines.old lines.new result }
     ensures same_rack { IsSameRack chain.old chain.new }
     ensures kinds { map kind_of (devices_of chain.new) ≡ map kind_of (devices_of chain.old) }
 {
-    play_chosen(machine, task, code, chosen, chain, lines)
+    let blank = Blank::new(1);
+    play_over_cable::<Chain, K, Brand>(machine, code, chosen, task, chain, lines, blank)
 }
 
-// Plays the chosen procedures of a code on the devices at these places of the rack, where the board of a task is
-// fitted, and puts the lines of the events.
+// The same on the devices at these places of the rack. It is a function of its own since a lender gets back only what
+// is a parameter: the rack is lent to a chain that ends here.
 fn play_on_chain<K: Sink>(
     machine: &mut Machine,
     task: &Task,
@@ -123,17 +84,12 @@ fn play_on_chain<K: Sink>(
     lines: &mut Lines<K>,
 ) -> Result<Ending, Failed>
     requires prepared { IsPrepared code.now machine.old }
-    requires below { AllBelow (length code.now.procedures) chosen.now }
-    requires placed { has_place task.now.request.now.place task.now.devices.now ≡ true }
-    requires devices { CanBeFitted task.now.devices.now }
-    requires chain { IsTrue (is_chain (map fitted rack.old.items) places.now) }
-    requires cards { cards_at (map fitted rack.old.items) places.now ≡ Some (map fresh task.now.devices.now) }
+    requires playable { IsPlayable code.now chosen.now task.now }
+    requires fitted { IsFittedAt (map fitted rack.old.items) places.now task.now }
     requires whole { IsWhole lines.old }
-    ensures put { PutsText K.Sink lines.old (events_text task.now.request.now.pins []
-        (task_play code.now chosen.now task.now).events) lines.new result }
-    ensures ended { IfOk result (λ ending. ending_of (task_play code.now chosen.now task.now).outcome ≡ Some ending) }
-    ensures left { OnOk result (AreLeft (map fitted rack.new.items) places.now task.now.devices.now
-        (task_play code.now chosen.now task.now).chain.far) }
+    ensures plays { PlaysRun K.Sink (task_play code.now chosen.now task.now) (events_text task.now.request.now.pins []
+        (task_play code.now chosen.now task.now).events) (AreLeft (map fitted rack.new.items) places.now
+        task.now.devices.now (task_play code.now chosen.now task.now).chain.far) lines.old lines.new result }
     ensures kinds { map kind_of rack.new.items ≡ map kind_of rack.old.items }
 {
     let mut chain = Chain::over(rack, places);
@@ -149,9 +105,7 @@ fn put_reported<K: Sink>(
     places: &[u32],
 ) -> Result<(), Failed>
     requires whole { IsWhole lines.old }
-    requires board { IsSomeAnd (cards_at (map fitted rack.now) places.now) (λ cs.
-        descriptions_of cs ≡ task.now.devices.now) }
-    requires counted { length places.now ≡ length task.now.devices.now }
+    requires board { AreDescribedAt (map fitted rack.now) places.now task.now.devices.now }
     requires placed { has_place task.now.request.now.place task.now.devices.now ≡ true }
     ensures { HasPut K.Sink lines.old (far_report (reported_far task.now.request.now.place
         (far_at (map fitted rack.now) places.now))) lines.new result }
@@ -173,9 +127,7 @@ fn put_asked_report<K: Sink>(
     places: &[u32],
 ) -> Result<(), Failed>
     requires whole { IsWhole lines.old }
-    requires board { IsSomeAnd (cards_at (map fitted rack.now) places.now) (λ cs.
-        descriptions_of cs ≡ task.now.devices.now) }
-    requires counted { length places.now ≡ length task.now.devices.now }
+    requires board { AreDescribedAt (map fitted rack.now) places.now task.now.devices.now }
     requires placed { has_place task.now.request.now.place task.now.devices.now ≡ true }
     ensures { HasPut K.Sink lines.old (asked_report task.now.request.now.report
         (reported_far task.now.request.now.place (far_at (map fitted rack.now) places.now))) lines.new result }
@@ -198,17 +150,13 @@ fn put_play<K: Sink>(
     lines: &mut Lines<K>,
 ) -> Result<Ending, Failed>
     requires prepared { IsPrepared code.now machine.old }
-    requires below { AllBelow (length code.now.procedures) chosen.now }
-    requires placed { has_place task.now.request.now.place task.now.devices.now ≡ true }
-    requires devices { CanBeFitted task.now.devices.now }
-    requires chain { IsTrue (is_chain (map fitted rack.old.items) places.now) }
-    requires cards { cards_at (map fitted rack.old.items) places.now ≡ Some (map fresh task.now.devices.now) }
+    requires playable { IsPlayable code.now chosen.now task.now }
+    requires fitted { IsFittedAt (map fitted rack.old.items) places.now task.now }
     requires whole { IsWhole lines.old }
-    ensures put { PutsText K.Sink lines.old (run_lines task.now.request.now (task_play code.now chosen.now task.now))
-        lines.new result }
-    ensures ended { IfOk result (λ ending. ending_of (task_play code.now chosen.now task.now).outcome ≡ Some ending) }
-    ensures left { OnOk result (AreLeft (map fitted rack.new.items) places.now task.now.devices.now
-        (task_play code.now chosen.now task.now).chain.far) }
+    ensures plays { PlaysRun K.Sink (task_play code.now chosen.now task.now)
+        (run_lines task.now.request.now (task_play code.now chosen.now task.now)) (AreLeft (map fitted rack.new.items)
+        places.now task.now.devices.now (task_play code.now chosen.now task.now).chain.far)
+        lines.old lines.new result }
     ensures kinds { map kind_of rack.new.items ≡ map kind_of rack.old.items }
 {
     let ending = play_on_chain(machine, task, code, chosen, rack, places, lines)?;
@@ -238,10 +186,8 @@ fn play_on_board<K: Sink>(
     rack: &mut Vec<Box<dyn Device>>,
     lines: &mut Lines<K>,
 ) -> Result<Status, NoAnswer>
-    requires below { AllBelow (length code.now.procedures) chosen.now }
-    requires placed { has_place task.now.request.now.place task.now.devices.now ≡ true }
+    requires playable { IsPlayable code.now chosen.now task.now }
     requires rack { IsRack (map kind_of rack.old.items) }
-    requires devices { CanBeFitted task.now.devices.now }
     requires whole { IsWhole lines.old }
     ensures says { Says K.Sink (Ends task.now.request.now (task_play code.now chosen.now task.now)) ⊥
         lines.old lines.new result }

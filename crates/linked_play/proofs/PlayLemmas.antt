@@ -9,7 +9,10 @@ use Rattle.stapl_meaning.specs.Texts.{events_text}
 use Rattle.stapl_machine.specs.declared.running.Machine.{Machine}
 use Rattle.scan_paths.specs.Cables.{Signal, whole, whole_if}
 use Rattle.stapl_player.specs.Plays.{HasPlayed}
+use Rattle.written_cable.specs.declared.trouble.Trouble.{Trouble}
+use Rattle.written_cable.specs.declared.trouble.Trouble.TheVariants.{CableFault, WriteFault}
 use Rattle.written_cable.specs.Papers.{Shown, Puts}
+use Rattle.written_cable.specs.Ports.{IfFault}
 use Rattle.link_cable.specs.declared.link_cable.LinkCable.{LinkCable}
 use Rattle.link_cable.specs.Wires.{WireState, is_in_step, board_in, told_board}
 use Rattle.link_cable.specs.LinkCables.{wire_of, board_through, cable_board, cable_breakage}
@@ -27,6 +30,11 @@ run_of board makes shown pins run count old new out new_out steps now ending mac
       ended = ap (λ far. ending_of (run far).outcome) (sym far) ∙ p.ended [];
       put = subst (λ far. Puts shown out (events_text pins [] (run far).events) new_out) far (p.put []);
     }
+
+-- a trouble has its cause in one of the counts
+pub has_cause : (cable lines : Type 0) (trouble : Trouble) → IfFault trouble cable lines → (cable → ⊥) → (lines → ⊥) → ⊥
+has_cause cable lines CableFault cause still quiet = still cause
+has_cause cable lines WriteFault cause still quiet = quiet cause
 
 unbroken : (broken ready : Bool) → whole_if (not broken && ready) ≡ whole → broken ≡ false
 unbroken true ready e = absurd (never e)

@@ -1,18 +1,12 @@
 //! Plays over cables of which the board is told, and over a wire to a link.
-ghost use Rattle.std.specs.Prelude.{◌≡◌, ◌≤◌, ◌+◌, ◌*◌, List, length, Some, IsOk, OnOk, OnErr, IfOk, IfErr};
-ghost use Rattle.tool_io.specs.Causes.{HasRisen, NeverFalls};
-ghost use Rattle.tool_io.specs.Lines.{IsWhole, IsOverSame, SinkNeverFalls, sink_of};
+ghost use Rattle.std.specs.Prelude.{List, IsOk, IfOk};
+ghost use Rattle.tool_io.specs.Lines.{SinkHasRisen};
 ghost use Rattle.dev_card.specs.Card.{Card};
 ghost use Rattle.dev_card.specs.FarEnds.{Told};
-ghost use Rattle.scan_paths.specs.Cables.{whole, cable_faults, IsCableLast};
 ghost use Rattle.scan_paths.specs.Scans.{lengths_of};
-ghost use Rattle.stapl_code.specs.Safe.{AllBelow};
 ghost use Rattle.written_cable.specs.Papers.{shown_of};
-ghost use Rattle.written_cable.specs.Ports.{IfFault};
-ghost use Rattle.stapl_machine.specs.Machines.{IsPrepared};
-ghost use Rattle.stapl_player.specs.Plays.{whole_play, whole_ticks, HasPlayed, HasPlayedFront};
-ghost use Rattle.link_cable.specs.LinkCables.{cable_board, cable_count, IsCountLast, cable_breakage, no_faults, IsNever, leads};
-ghost use Rattle.linked_play.specs.LinkedPlays.{HasRunOf, IsGoodOver};
+ghost use Rattle.stapl_player.specs.Plays.{whole_play, CanPlay, CableHasRisen};
+ghost use Rattle.linked_play.specs.LinkedPlays.{HasRunOf, GoesAsTold, IsWholePlay, IsGoodOver};
 
 use base::Steps;
 use link_cable::{LinkCable, Wire};
@@ -38,40 +32,15 @@ pub fn play_told<C: Cable, K: Sink, L: Ledger>(
     turns: u32,
     steps: &mut Steps<L>,
 ) -> Result<Ending, Trouble>
-    requires prepared { IsPrepared code.now machine.old }
-    requires chosen { AllBelow (length code.now.procedures) chosen.now }
-    requires whole_cable { C.breakage cable.old ≡ whole }
-    requires whole { IsWhole out.old }
-    ensures same_sink { IsOverSame out.old out.new }
-    ensures whole { OnOk result (IsWhole out.new) }
-    ensures whole_cable { OnOk result (C.breakage cable.new ≡ whole) }
+    requires { CanPlay C.Cable code.now chosen.now machine.old cable.old out.old }
 
-    // Over a cable that tells its board, ending and text are those of the run on it.
-    ensures told { (cs : List Card) → C.board cable.old ≡ Some cs → IfOk result (λ ending.
-        HasRunOf (shown_of K.written) pins
-        (whole_play code.now chosen.now turns (lengths_of base.now) (Told cs)) out.old ending out.new) }
-
-    // It is Ok, if neither count rises.
-    ensures sure { (HasRisen (cable_faults C.line_faults C.pin_faults) (IsCableLast C.is_line_last C.is_pin_last)
-        cable.old cable.new → ⊥) → (HasRisen K.faults K.is_last (sink_of out.old) (sink_of out.new) → ⊥) →
-        IsOk result }
+    // It is Ok, if neither count rises. Over a cable that tells its board, ending and text are those of the run on it.
+    ensures told { GoesAsTold C.Cable K.Sink pins code.now chosen.now turns (lengths_of base.now)
+        cable.old out.old result cable.new out.new }
 
     // The rest is that of the play.
-    ensures played { IfOk result (λ ending. HasPlayed C.board C.made (shown_of K.written) pins
-        (whole_play code.now chosen.now turns (lengths_of base.now))
-        (whole_ticks code.now chosen.now turns (lengths_of base.now))
-        cable.old out.old steps.old ending cable.new out.new steps.new machine.new) }
-    ensures front { OnErr result (HasPlayedFront C.board C.made (shown_of K.written) pins
-        (whole_play code.now chosen.now turns (lengths_of base.now))
-        (whole_ticks code.now chosen.now turns (lengths_of base.now))
-        cable.old out.old steps.old cable.new out.new steps.new) }
-    ensures bounded { steps.new ≤ steps.old + (turns + 1) * length code.now.instrs }
-    ensures kept_cable { NeverFalls (cable_faults C.line_faults C.pin_faults)
-        (IsCableLast C.is_line_last C.is_pin_last) cable.old cable.new }
-    ensures kept { SinkNeverFalls K.Sink out.old out.new }
-    ensures fault { IfErr result (λ trouble. IfFault trouble
-        (HasRisen (cable_faults C.line_faults C.pin_faults) (IsCableLast C.is_line_last C.is_pin_last)
-        cable.old cable.new) (HasRisen K.faults K.is_last (sink_of out.old) (sink_of out.new))) }
+    ensures play { IsWholePlay C.Cable K.Sink pins code.now chosen.now turns (lengths_of base.now)
+        cable.old out.old steps.old result cable.new out.new steps.new machine.new }
 {
     match play(machine, code, chosen, base, cable, out, pins, turns, steps) {
         Ok(ending) => Ok(ending),
@@ -95,38 +64,18 @@ pub fn play_linked<W: Wire, K: Sink, L: Ledger>(
     turns: u32,
     steps: &mut Steps<L>,
 ) -> Result<Ending, Trouble>
-    requires prepared { IsPrepared code.now machine.old }
-    requires chosen { AllBelow (length code.now.procedures) chosen.now }
-    requires whole_cable { cable_breakage W.is_ready cable.old ≡ whole }
-    requires whole { IsWhole out.old }
-    ensures same_sink { IsOverSame out.old out.new }
-    ensures whole { OnOk result (IsWhole out.new) }
-    ensures whole_cable { OnOk result (cable_breakage W.is_ready cable.new ≡ whole) }
+    requires { CanPlay ⟦<LinkCable<W> as Cable>⟧ code.now chosen.now machine.old cable.old out.old }
 
     // Over a good wire to a link with this board, ending and text are those of the run on it, as those of a play over a
     // chain with this board are, if neither count rises.
     ensures as_chain { (cs : List Card) → IsGoodOver W.told W.is_steady cs cable.old →
-        (HasRisen (cable_faults (cable_count W.faults) no_faults) (IsCableLast (IsCountLast W.is_last) IsNever)
-        cable.old cable.new → ⊥) → (HasRisen K.faults K.is_last (sink_of out.old) (sink_of out.new) → ⊥) →
-        IsOk result × IfOk result (λ ending. HasRunOf (shown_of K.written) pins
-        (whole_play code.now chosen.now turns (lengths_of base.now) (Told cs)) out.old ending out.new) }
+        (CableHasRisen ⟦<LinkCable<W> as Cable>⟧ cable.old cable.new → ⊥) →
+        (SinkHasRisen K.Sink out.old out.new → ⊥) → IsOk result × IfOk result (λ ending. HasRunOf (shown_of K.written)
+        pins (whole_play code.now chosen.now turns (lengths_of base.now) (Told cs)) out.old ending out.new) }
 
     // The rest is that of the play.
-    ensures played { IfOk result (λ ending. HasPlayed (cable_board W.told) leads (shown_of K.written) pins
-        (whole_play code.now chosen.now turns (lengths_of base.now))
-        (whole_ticks code.now chosen.now turns (lengths_of base.now))
-        cable.old out.old steps.old ending cable.new out.new steps.new machine.new) }
-    ensures front { OnErr result (HasPlayedFront (cable_board W.told) leads (shown_of K.written) pins
-        (whole_play code.now chosen.now turns (lengths_of base.now))
-        (whole_ticks code.now chosen.now turns (lengths_of base.now))
-        cable.old out.old steps.old cable.new out.new steps.new) }
-    ensures bounded { steps.new ≤ steps.old + (turns + 1) * length code.now.instrs }
-    ensures kept_cable { NeverFalls (cable_faults (cable_count W.faults) no_faults)
-        (IsCableLast (IsCountLast W.is_last) IsNever) cable.old cable.new }
-    ensures kept { SinkNeverFalls K.Sink out.old out.new }
-    ensures fault { IfErr result (λ trouble. IfFault trouble
-        (HasRisen (cable_faults (cable_count W.faults) no_faults) (IsCableLast (IsCountLast W.is_last) IsNever)
-        cable.old cable.new) (HasRisen K.faults K.is_last (sink_of out.old) (sink_of out.new))) }
+    ensures play { IsWholePlay ⟦<LinkCable<W> as Cable>⟧ K.Sink pins code.now chosen.now turns (lengths_of base.now)
+        cable.old out.old steps.old result cable.new out.new steps.new machine.new }
 {
     match play_told(machine, code, chosen, base, cable, out, pins, turns, steps) {
         Ok(ending) => Ok(ending),

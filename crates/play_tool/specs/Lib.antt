@@ -6,5 +6,6 @@ pub mod Alone
 pub mod Compiled
 pub mod ReadContents
 pub mod Held
+pub mod TopCalls
 pub mod CodesInFiles
 pub mod NoFaults

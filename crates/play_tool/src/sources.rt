@@ -97,7 +97,7 @@ fn play_code_file<S: Shelf, K: Sink>(
     }
 }
 
-/// Plays what a file holds, as a task asks for it.
+/// Plays what a file holds, as a task asks for it. It only branches, so that `answer_play` has one exit for both.
 pub(crate) fn play_source<S: Shelf, K: Sink>(
     alloc: Global,
     source: Source,

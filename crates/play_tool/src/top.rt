@@ -1,13 +1,12 @@
 //! The top call.
 ghost use Rattle.std.specs.Prelude.{◌≡◌, map, string_bytes};
-ghost use Rattle.tool_io.specs.Causes.{HasRisen, NeverFalls, NoneFalls};
 ghost use Rattle.tool_frame.specs.Answers.{WroteFront};
 ghost use Rattle.chain_sim.specs.Rack.{IsRack};
-ghost use Rattle.tool_frame.specs.Files.{HasReadCause};
-ghost use Rattle.play_words.specs.Statuses.{IsFault, ComesBeforeFitting};
+ghost use Rattle.play_words.specs.Statuses.{IsFault};
 ghost use Rattle.play_tool.specs.Answers.{WordsAnswer};
 ghost use Rattle.play_tool.specs.FinalRacks.{AskForPlay};
 ghost use Rattle.play_tool.specs.ReadContents.{OfWords, IsReachedBy, Answered};
+ghost use Rattle.play_tool.specs.TopCalls.{HasFailedRead, HasFailedWrite, KeepsOutside, KeepsDevices};
 
 use crate::Player;
 use dev_card::Device;
@@ -36,29 +35,25 @@ pub fn run_tool<S: Shelf, K: Sink>(
 
     // A read fault comes only where the count of a file that the words name rose, of the program only if no told board
     // is refused, and then nothing is written.
-    ensures read { result ≡ Status.ReadFault → HasReadCause S.Shelf
-        (IsReachedBy (S.told shelf.old) (map string_bytes words.now)) shelf.old shelf.new }
-    ensures nothing { result ≡ Status.ReadFault → K.written out.new ≡ K.written out.old }
+    ensures read { result ≡ Status.ReadFault → HasFailedRead S.Shelf K.Sink
+        (IsReachedBy (S.told shelf.old) (map string_bytes words.now)) shelf.old shelf.new out.old out.new }
 
     // A write fault comes only where the sink's count rose, and then a prefix of the text is written.
-    ensures write { result ≡ Status.WriteFault → HasRisen K.faults K.is_last out.old out.new }
-    ensures front { result ≡ Status.WriteFault → OfWords (S.told shelf.old) (map string_bytes words.now) (λ contents.
+    ensures write { result ≡ Status.WriteFault → HasFailedWrite K.Sink out.old out.new
+        (OfWords (S.told shelf.old) (map string_bytes words.now) (λ contents.
         WroteFront (WordsAnswer (map string_bytes words.now) (λ request. contents))
-        (K.written out.old) (K.written out.new)) }
+        (K.written out.old) (K.written out.new))) }
 
     // After want of memory nothing is written.
     ensures memory { result ≡ Status.Memory → K.written out.new ≡ K.written out.old }
 
     // Whatever is answered, the files stay, and no count falls.
-    ensures keeps { S.told shelf.new ≡ S.told shelf.old }
-    ensures later { NoneFalls S.faults S.is_last shelf.old shelf.new }
-    ensures out_later { NeverFalls K.faults K.is_last out.old out.new }
+    ensures kept { KeepsOutside S.Shelf K.Sink shelf.old shelf.new out.old out.new }
 
     // The rack stays as it was, if the cause of the status comes before the board is fitted, and if no play is asked
     // for. In any case each of its devices keeps its kind.
-    ensures before { ComesBeforeFitting result → rack.new.items ≡ rack.old.items }
-    ensures other { (AskForPlay (map string_bytes words.now) → ⊥) → rack.new.items ≡ rack.old.items }
-    ensures kinds { map kind_of rack.new.items ≡ map kind_of rack.old.items }
+    ensures rack { KeepsDevices kind_of (AskForPlay (map string_bytes words.now)) result
+        rack.old.items rack.new.items }
 {
     programs_are_typed();
     match run(&Player, alloc, words, shelf, rack, out) {

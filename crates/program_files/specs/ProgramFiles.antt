@@ -1,8 +1,14 @@
 -- The program in a file that is named. The rules are the tools' own.
-use Rattle.std.specs.Prelude.{ℕ, List, Option, Some, IsSomeAnd}
+use Rattle.std.specs.Prelude.{◌≡◌, ℕ, List, Option, Some, IsSomeAnd}
 use Rattle.stapl_lexer.specs.declared.reason.Reason.{Reason}
-use Rattle.stapl_syntax.specs.Programs.{FirstFault}
+use Rattle.stapl_syntax.specs.Programs.{IsProgram, FirstFault}
+use Rattle.stapl_syntax.specs.ProgramValues.{ProgramValue, trees_of}
 use Rattle.tool_frame.specs.Files.{AreRead, OfFile}
+
+-- The program has these bytes as its text, and its statements are exactly those of the text.
+pub record IsProgramOf (bytes : List ℕ) (program : ProgramValue) : Type 0 where
+  pub text_is : program.text ≡ bytes
+  pub is : IsProgram program.text (trees_of program)
 
 -- The bytes that were read are this text.
 abbrev pub ReadsText : Option (List (List ℕ × List ℕ)) → List ℕ → List ℕ → Type 0

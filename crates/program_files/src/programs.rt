@@ -5,7 +5,7 @@ ghost use Rattle.stapl_lexer.specs.declared.reason.Reason.{Reason};
 ghost use Rattle.stapl_syntax.specs.Programs.{IsProgram, FirstFault};
 ghost use Rattle.stapl_syntax.specs.ProgramValues.{trees_of};
 ghost use Rattle.program_files.specs.declared.programs.ProgramNotRead.TheVariants as refusals;
-ghost use Rattle.program_files.specs.ProgramFiles.{ReadsText, ReadsProgramFault};
+ghost use Rattle.program_files.specs.ProgramFiles.{IsProgramOf, ReadsText, ReadsProgramFault};
 
 use stapl_checker::{CheckRefused, check};
 use stapl_lexer::{Reason, TEXT_LIMIT};
@@ -35,8 +35,7 @@ pub enum ProgramNotRead {
 
 // The program with these bytes. It answers no `Read`.
 fn program_of(alloc: Global, bytes: &[u8]) -> Result<Program, ProgramNotRead>
-    ensures text { IfOk result (λ program. program.text ≡ bytes.now) }
-    ensures program { IfOk result (λ program. IsProgram program.text (trees_of program)) }
+    ensures program { IfOk result (IsProgramOf bytes.now) }
     ensures fault { (piece line : ℕ) (reason : Reason) → result ≡ Err (refusals.Refused piece line reason) →
         FirstFault bytes.now piece line reason }
     ensures no_read { IsErrOf result ProgramNotRead.Read → ⊥ }

@@ -1,6 +1,5 @@
 //! One play of a code on devices alone: how it ended, and whether it was quiet.
 ghost use Rattle.std.specs.Prelude.{◌≡◌, length, map, Some, IsTrue, IfOk};
-ghost use Rattle.scan_paths.specs.Cables.{whole};
 ghost use Rattle.dev_card.specs.Card.{fresh};
 ghost use Rattle.tap_states.specs.declared.Tap.TheVariants.{Reset};
 ghost use Rattle.board_text.specs.Boards.{CanBeFitted};
@@ -11,7 +10,8 @@ ghost use Rattle.stapl_machine.specs.Machines.{IsPrepared};
 ghost use Rattle.padded_plays.specs.PaddedRuns.{fresh_board};
 ghost use Rattle.quiet_watch.specs.HeardPlays.{new_watch};
 ghost use Rattle.quiet_runs.specs.Verdicts.{JudgesCode};
-ghost use Rattle.quiet_watch.specs.WatchedDevices.{watched_of, watch_breakage, devices_of, IsOverSame};
+ghost use Rattle.quiet_watch.specs.WatchedDevices.{watched_of, devices_of, IsOverSame};
+ghost use Rattle.quiet_runs.specs.WatchedPlays.{CanWatch};
 
 use crate::watching::watch_play;
 use chain_sim::fit_board;
@@ -39,10 +39,8 @@ fn judge_over(
     descs: &[Desc],
     turns: u32,
 ) -> Result<Judged, AllocError>
-    requires prepared { IsPrepared code.now machine.old }
-    requires below { AllBelow (length code.now.procedures) chosen.now }
+    requires ready { CanWatch fitted kind_of code.now chosen.now machine.old watch.old }
     requires new { watched_of fitted kind_of watch.old ≡ new_watch descs.now }
-    requires whole { watch_breakage fitted kind_of watch.old ≡ whole }
     ensures judged { IfOk result (JudgesCode code.now chosen.now turns descs.now) }
     ensures same_rack { IsOverSame watch.old watch.new }
     ensures kinds { map kind_of (devices_of watch.new) ≡ map kind_of (devices_of watch.old) }

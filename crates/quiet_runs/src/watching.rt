@@ -1,13 +1,10 @@
 //! The play of a code over a watch.
-ghost use Rattle.std.specs.Prelude.{◌≡◌, ◌<◌, length, IfOk};
-ghost use Rattle.scan_paths.specs.Cables.{whole};
+ghost use Rattle.std.specs.Prelude.{◌≡◌, ◌<◌, IfOk};
 ghost use Rattle.scan_paths.specs.Scans.{lengths_of};
-ghost use Rattle.stapl_code.specs.Safe.{AllBelow};
-ghost use Rattle.stapl_machine.specs.Machines.{IsPrepared};
 ghost use Rattle.stapl_player.specs.Plays.{whole_play};
 ghost use Rattle.quiet_watch.specs.Watches.{marks};
-ghost use Rattle.quiet_watch.specs.WatchedDevices.{watch_breakage, IsSameWatch};
-ghost use Rattle.quiet_runs.specs.WatchedPlays.{HasWatchedPlay};
+ghost use Rattle.quiet_watch.specs.WatchedDevices.{IsSameWatch};
+ghost use Rattle.quiet_runs.specs.WatchedPlays.{CanWatch, HasWatchedPlay};
 
 use crate::marks::marks;
 use crate::silence::Silence;
@@ -38,9 +35,7 @@ fn play_to<D: Device, K: Sink, L: Ledger>(
     requires name { blank.name ≡ L.name }
     requires parts { blank.parts ≡ L.parts }
     requires some { 0 < L.parts }
-    requires prepared { IsPrepared code.now machine.old }
-    requires below { AllBelow (length code.now.procedures) chosen.now }
-    requires whole { watch_breakage D.fitted D.kind_of watch.old ≡ whole }
+    requires ready { CanWatch D.fitted D.kind_of code.now chosen.now machine.old watch.old }
     ensures same { IsSameWatch D.fitted D.kind_of watch.old watch.new }
     ensures played { IfOk result (λ ending. HasWatchedPlay D.fitted D.kind_of
         (whole_play code.now chosen.now turns (lengths_of base.now)) watch.old ending watch.new) }
@@ -67,9 +62,7 @@ fn play_silently<D: Device, L: Ledger>(
     requires name { blank.name ≡ L.name }
     requires parts { blank.parts ≡ L.parts }
     requires some { 0 < L.parts }
-    requires prepared { IsPrepared code.now machine.old }
-    requires below { AllBelow (length code.now.procedures) chosen.now }
-    requires whole { watch_breakage D.fitted D.kind_of watch.old ≡ whole }
+    requires ready { CanWatch D.fitted D.kind_of code.now chosen.now machine.old watch.old }
     ensures same { IsSameWatch D.fitted D.kind_of watch.old watch.new }
     ensures played { IfOk result (λ ending. HasWatchedPlay D.fitted D.kind_of
         (whole_play code.now chosen.now turns marks) watch.old ending watch.new) }
@@ -97,9 +90,7 @@ pub(crate) fn watch_play<D: Device>(
     watch: &mut Watch<D>,
     turns: u32,
 ) -> Result<Ending, Trouble>
-    requires prepared { IsPrepared code.now machine.old }
-    requires below { AllBelow (length code.now.procedures) chosen.now }
-    requires whole { watch_breakage D.fitted D.kind_of watch.old ≡ whole }
+    requires { CanWatch D.fitted D.kind_of code.now chosen.now machine.old watch.old }
     ensures same { IsSameWatch D.fitted D.kind_of watch.old watch.new }
     ensures played { IfOk result (λ ending. HasWatchedPlay D.fitted D.kind_of
         (whole_play code.now chosen.now turns marks) watch.old ending watch.new) }

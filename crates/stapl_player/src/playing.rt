@@ -1,14 +1,9 @@
 //! The play of a code.
-ghost use Rattle.std.specs.Prelude.{◌≡◌, ◌≤◌, ◌+◌, ◌*◌, length, OnOk, OnErr, IfOk, IfErr};
-ghost use Rattle.tool_io.specs.Causes.{HasRisen, NeverFalls};
-ghost use Rattle.tool_io.specs.Lines.{IsWhole, IsOverSame, SinkNeverFalls, sink_of};
-ghost use Rattle.scan_paths.specs.Cables.{whole, cable_faults, IsCableLast};
+ghost use Rattle.std.specs.Prelude.{◌≤◌, ◌+◌, ◌*◌, length};
 ghost use Rattle.scan_paths.specs.Scans.{lengths_of};
-ghost use Rattle.stapl_code.specs.Safe.{AllBelow};
-ghost use Rattle.written_cable.specs.Papers.{shown_of};
-ghost use Rattle.written_cable.specs.Ports.{IfFault};
-ghost use Rattle.stapl_machine.specs.Machines.{IsPrepared};
-ghost use Rattle.stapl_player.specs.Plays.{whole_play, whole_ticks, HasPlayed, HasPlayedFront};
+ghost use Rattle.written_cable.specs.OnPaper.{lines_paper};
+ghost use Rattle.written_cable.specs.Ports.{KeepsParts};
+ghost use Rattle.stapl_player.specs.Plays.{CanPlay, PlaysOver};
 
 use base::Steps;
 use scan_paths::{BasePads, Cable};
@@ -38,28 +33,11 @@ pub fn play<C: Cable, K: Sink, L: Ledger>(
     turns: u32,
     steps: &mut Steps<L>,
 ) -> Result<Ending, Trouble>
-    requires prepared { IsPrepared code.now machine.old }
-    requires chosen { AllBelow (length code.now.procedures) chosen.now }
-    requires whole_cable { C.breakage cable.old ≡ whole }
-    requires whole { IsWhole out.old }
-    ensures same_sink { IsOverSame out.old out.new }
-    ensures whole { OnOk result (IsWhole out.new) }
-    ensures whole_cable { OnOk result (C.breakage cable.new ≡ whole) }
-    ensures played { IfOk result (λ ending. HasPlayed C.board C.made (shown_of K.written) pins
-        (whole_play code.now chosen.now turns (lengths_of base.now))
-        (whole_ticks code.now chosen.now turns (lengths_of base.now))
-        cable.old out.old steps.old ending cable.new out.new steps.new machine.new) }
-    ensures front { OnErr result (HasPlayedFront C.board C.made (shown_of K.written) pins
-        (whole_play code.now chosen.now turns (lengths_of base.now))
-        (whole_ticks code.now chosen.now turns (lengths_of base.now))
-        cable.old out.old steps.old cable.new out.new steps.new) }
+    requires { CanPlay C.Cable code.now chosen.now machine.old cable.old out.old }
+    ensures played { PlaysOver C.Cable K.Sink pins code.now chosen.now turns (lengths_of base.now)
+        cable.old out.old steps.old result cable.new out.new steps.new machine.new }
     ensures bounded { steps.new ≤ steps.old + (turns + 1) * length code.now.instrs }
-    ensures kept_cable { NeverFalls (cable_faults C.line_faults C.pin_faults)
-        (IsCableLast C.is_line_last C.is_pin_last) cable.old cable.new }
-    ensures kept { SinkNeverFalls K.Sink out.old out.new }
-    ensures fault { IfErr result (λ trouble. IfFault trouble
-        (HasRisen (cable_faults C.line_faults C.pin_faults) (IsCableLast C.is_line_last C.is_pin_last)
-        cable.old cable.new) (HasRisen K.faults K.is_last (sink_of out.old) (sink_of out.new))) }
+    ensures kept { KeepsParts C.Cable (lines_paper K.Sink) cable.old out.old cable.new out.new result }
 {
     match machine.reset_chain(cable) {
         Ok(()) => match machine.run(code, chosen, base, cable, out, pins, turns, steps) {

@@ -1,13 +1,16 @@
 -- The answer to the words of a command. `--help` and `--version`, each alone, are answered by a text of their own; all
 -- other words are the tool's. The rules are this program's own.
-use Rattle.std.specs.Prelude.{ℕ, pos, List, Option, Result, Ok, Err}
+use Rattle.std.specs.Prelude.{◌≡◌, ℕ, pos, true, false, List, Option, Result, Ok, Err}
+use Rattle.tool_frame.specs.Answers.{WroteFront}
+use Rattle.tool_frame.specs.Files.{OfFiles, NamesOne, first_of}
 use Rattle.tool_frame.specs.Commands as commands
 use Rattle.play_words.specs.declared.status.Status.{Status}
 use Rattle.play_words.specs.declared.status.Status.TheVariants.{Done, ReadFault, WriteFault, Memory as NoMemory}
 use Rattle.tool_frame.specs.declared.no_answer.NoAnswer.{NoAnswer}
 use Rattle.tool_frame.specs.declared.no_answer.NoAnswer.TheVariants as causes
-use Rattle.play_tool.specs.ReadContents.{IsReachedBy}
-use Rattle.tool_questions.specs.Questions.{IsAskedOf}
+use Rattle.play_tool.specs.Answers.{WordsAnswer}
+use Rattle.play_tool.specs.ReadContents.{OfWords, IsReachedBy}
+use Rattle.tool_questions.specs.Questions.{ask_question, QuestionAnswer, IsAskedOf}
 use Rattle.play_words.specs.declared.help.TheConstants.{HELP, VERSION}
 
 -- The answer to the words, if the tool's is this one.
@@ -18,6 +21,14 @@ CommandAnswer ToolAnswer words = commands.CommandAnswer HELP.now VERSION.now (Do
 pub data IsReachedByCommand (told : Option (List (List ℕ × List ℕ))) (words : List (List ℕ)) (path : List ℕ) : Type 0 where
   by_tool : IsReachedBy told words path → IsReachedByCommand told words path
   by_question : IsAskedOf words path → IsReachedByCommand told words path
+
+-- A prefix of the answer to the words is written, with the contents of their files as they were read; or, if they are a
+-- question, of the answer to that.
+pub record HasCommandFront (told : Option (List (List ℕ × List ℕ))) (words : List (List ℕ)) (before after : Option (List ℕ)) : Type 0 where
+  pub of_answer : ask_question words ≡ false →
+      OfWords told words (λ contents. WroteFront (CommandAnswer (WordsAnswer words (λ request. contents)) words) before after)
+  pub of_question : ask_question words ≡ true →
+      OfFiles (NamesOne (IsAskedOf words)) told (λ contents. WroteFront (QuestionAnswer (first_of contents) words) before after)
 
 -- the status of a run that ended in this way
 abbrev pub status_of : Result Status NoAnswer → Status

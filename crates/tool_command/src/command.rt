@@ -1,19 +1,19 @@
 //! What a command does with its words.
 ghost use Rattle.std.specs.Prelude.{◌≡◌, true, false, map, string_bytes};
-ghost use Rattle.tool_io.specs.Causes.{HasRisen, NeverFalls, NoneFalls};
-ghost use Rattle.tool_frame.specs.Answers.{Wrote, WroteFront};
+ghost use Rattle.tool_frame.specs.Answers.{Wrote};
 ghost use Rattle.chain_sim.specs.Rack.{IsRack};
-ghost use Rattle.tool_frame.specs.Files.{OfFiles, NamesOne, first_of, HasReadCause};
-ghost use Rattle.play_words.specs.Statuses.{IsFault, ComesBeforeFitting};
+ghost use Rattle.tool_frame.specs.Files.{OfFiles, NamesOne, first_of};
+ghost use Rattle.play_words.specs.Statuses.{IsFault};
 ghost use Rattle.play_tool.specs.Answers.{WordsAnswer};
 ghost use Rattle.play_tool.specs.FinalRacks.{AskForPlay};
 ghost use Rattle.play_tool.specs.ReadContents.{OfWords, Answered};
+ghost use Rattle.play_tool.specs.TopCalls.{HasFailedRead, HasFailedWrite, KeepsOutside, KeepsDevices};
 ghost use Rattle.tool_questions.specs.Questions.{ask_question, QuestionAnswer, IsAskedOf};
-ghost use Rattle.tool_command.specs.Commands.{CommandAnswer, IsReachedByCommand, status_of};
+ghost use Rattle.tool_command.specs.Commands.{CommandAnswer, IsReachedByCommand, HasCommandFront, status_of};
 
 use dev_card::Device;
-use play_words::{HELP, VERSION, Status};
 use play_tool::run_tool;
+use play_words::{HELP, Status, VERSION};
 use std::alloc::Global;
 use tool_frame::{NoAnswer, run, text_asked, write_text};
 use tool_io::{Shelf, Sink};
@@ -58,34 +58,24 @@ pub fn run_command<S: Shelf, K: Sink>(
 
     // A read fault comes only where the count of a file that the words name rose, of the program only if no told board
     // is refused, and then nothing is written.
-    ensures read { result ≡ Status.ReadFault → HasReadCause S.Shelf
-        (IsReachedByCommand (S.told shelf.old) (map string_bytes words.now)) shelf.old shelf.new }
-    ensures nothing { result ≡ Status.ReadFault → K.written out.new ≡ K.written out.old }
+    ensures read { result ≡ Status.ReadFault → HasFailedRead S.Shelf K.Sink
+        (IsReachedByCommand (S.told shelf.old) (map string_bytes words.now)) shelf.old shelf.new out.old out.new }
 
-    // A write fault comes only where the sink's count rose, and then a prefix of the text is written.
-    ensures write { result ≡ Status.WriteFault → HasRisen K.faults K.is_last out.old out.new }
-    ensures front { result ≡ Status.WriteFault → ask_question (map string_bytes words.now) ≡ false →
-        OfWords (S.told shelf.old) (map string_bytes words.now) (λ contents.
-        WroteFront (CommandAnswer (WordsAnswer (map string_bytes words.now) (λ request. contents))
-        (map string_bytes words.now)) (K.written out.old) (K.written out.new)) }
-    ensures question_front { result ≡ Status.WriteFault → ask_question (map string_bytes words.now) ≡ true →
-        OfFiles (NamesOne (IsAskedOf (map string_bytes words.now))) (S.told shelf.old) (λ contents.
-        WroteFront (QuestionAnswer (first_of contents) (map string_bytes words.now))
-        (K.written out.old) (K.written out.new)) }
+    // A write fault comes only where the sink's count rose, and then a prefix of the text is written, of the answer or
+    // of that to a question.
+    ensures write { result ≡ Status.WriteFault → HasFailedWrite K.Sink out.old out.new
+        (HasCommandFront (S.told shelf.old) (map string_bytes words.now) (K.written out.old) (K.written out.new)) }
 
     // After want of memory nothing is written.
     ensures memory { result ≡ Status.Memory → K.written out.new ≡ K.written out.old }
 
     // Whatever is answered, the files stay, and no count falls.
-    ensures keeps { S.told shelf.new ≡ S.told shelf.old }
-    ensures later { NoneFalls S.faults S.is_last shelf.old shelf.new }
-    ensures out_later { NeverFalls K.faults K.is_last out.old out.new }
+    ensures kept { KeepsOutside S.Shelf K.Sink shelf.old shelf.new out.old out.new }
 
     // The rack stays as it was, if the cause of the status comes before the board is fitted, and if no play is asked
     // for. In any case each of its devices keeps its kind.
-    ensures before { ComesBeforeFitting result → rack.new.items ≡ rack.old.items }
-    ensures other { (AskForPlay (map string_bytes words.now) → ⊥) → rack.new.items ≡ rack.old.items }
-    ensures kinds { map kind_of rack.new.items ≡ map kind_of rack.old.items }
+    ensures rack { KeepsDevices kind_of (AskForPlay (map string_bytes words.now)) result
+        rack.old.items rack.new.items }
 {
     if ask_question(words) {
         return status_of(run(&Questioner, alloc, words, shelf, &mut (), out));

@@ -1,5 +1,5 @@
 -- Where a run goes on after its turns.
-use Rattle.std.specs.Prelude.{◌≡◌, ℕ, Bool, List, Option, Some}
+use Rattle.std.specs.Prelude.{◌≡◌, ◌<◌, ◌^◌, ℕ, Bool, List, [], length, Option, Some}
 use Rattle.tap_states.specs.declared.Tap.TheVariants.{Reset}
 use Rattle.dev_card.specs.Card.{Card}
 use Rattle.dev_card.specs.Board.{Clock}
@@ -11,7 +11,27 @@ use Rattle.stapl_meaning.specs.Deeds.{Chain}
 use Rattle.stapl_meaning.specs.Plays.{Run, Going, chain_reset}
 use Rattle.written_cable.specs.declared.paper.Paper.{Ghosts as PaperOf}
 use Rattle.written_cable.specs.declared.pin_cable.PinCable.{PinCable}
-use Rattle.written_cable.specs.Ports.{Passes, chain_before}
+use Rattle.written_cable.specs.Ports.{IsOpenPort, Passes, chain_before}
+use Rattle.stapl_code.specs.declared.raw.CodeLists.{CodeLists}
+use Rattle.machine_memory.specs.declared.memory.Workspace.{Workspace}
+use Rattle.machine_memory.specs.Acts.{IsUnused}
+use Rattle.machine_memory.specs.RunRooms.{HasRoom}
+use Rattle.machine_memory.specs.Zeros.{zeros_of_code}
+
+-- The turns of a run can be done from here: the instructions of the code can be counted, nothing of the port is broken,
+-- it is in step, and the workspace has room for each turn.
+pub record CanTurn {C O : Type 0} (cable : CableOf C) (paper : PaperOf O) (code : CodeLists) (work : Workspace) (port : PinCable C O) : Type 0 where
+  pub countable : length code.instrs < 2 ^ 32
+  pub open_port : IsOpenPort cable paper port
+  pub room : HasRoom code work
+
+-- A workspace is as at the start of a play of a code: its variables hold zeros, it holds neither operand nor record, and
+-- it has room for the play.
+pub record IsFreshFor (code : CodeLists) (work : Workspace) : Type 0 where
+  pub variables : work.memory.variables.items ≡ zeros_of_code code
+  pub none : work.operands.items ≡ []
+  pub unused : IsUnused work.memory
+  pub room : HasRoom code work
 
 -- A run over a port goes on at this place after its turns.
 pub record GoesOnAt {C O : Type 0} (cable : CableOf C) (paper : PaperOf O)

@@ -1,11 +1,9 @@
 //! The place at which a run goes on.
-ghost use Rattle.std.specs.Prelude.{◌≡◌, ◌<◌, ◌^◌, [], length, IfOk, IfSome};
+ghost use Rattle.std.specs.Prelude.{◌≡◌, [], IfOk, IfSome};
 ghost use Rattle.machine_memory.specs.Acts.{IsUnused, state_of};
 ghost use Rattle.stapl_instructions.specs.Moves.{led_on, IsClean};
-ghost use Rattle.machine_memory.specs.RunRooms.{HasRoom};
-ghost use Rattle.written_cable.specs.Ports.{IsOpenPort};
 ghost use Rattle.stapl_machine.specs.Runs.{run_of, chosen_run, begun_run, play_from};
-ghost use Rattle.turn_places.specs.Places.{GoesOnAt};
+ghost use Rattle.turn_places.specs.Places.{CanTurn, GoesOnAt};
 
 use base::Steps;
 use machine_memory::memory::Workspace;
@@ -27,10 +25,8 @@ fn turns_place<C: Cable, O: Paper, L: Ledger>(
     turns: u32,
     steps: &mut Steps<L>,
 ) -> Result<Option<u32>, Trouble>
-    requires countable { length code.now.instrs < 2 ^ 32 }
+    requires ready { CanTurn C.Cable O.Paper code.now work.old port.old }
     requires none { work.old.operands.items ≡ [] }
-    requires open { IsOpenPort C.Cable O.Paper port.old }
-    requires room { HasRoom code.now work.old }
     ensures { IfOk result (λ found. IfSome found (λ place. GoesOnAt C.Cable O.Paper
         (run_of code.now turns start (state_of chosen.now work.old)) port.old place port.new)) }
 {
@@ -54,10 +50,8 @@ fn chosen_place<C: Cable, O: Paper, L: Ledger>(
     turns: u32,
     steps: &mut Steps<L>,
 ) -> Result<Option<u32>, Trouble>
-    requires countable { length code.now.instrs < 2 ^ 32 }
+    requires ready { CanTurn C.Cable O.Paper code.now work.old port.old }
     requires none { work.old.operands.items ≡ [] }
-    requires open { IsOpenPort C.Cable O.Paper port.old }
-    requires room { HasRoom code.now work.old }
     ensures { IfOk result (λ found. IfSome found (λ place. GoesOnAt C.Cable O.Paper
         (chosen_run code.now turns (state_of chosen.now work.old)) port.old place port.new)) }
 {
@@ -80,10 +74,8 @@ fn begun_place<C: Cable, O: Paper, L: Ledger>(
     turns: u32,
     steps: &mut Steps<L>,
 ) -> Result<Option<u32>, Trouble>
-    requires countable { length code.now.instrs < 2 ^ 32 }
+    requires ready { CanTurn C.Cable O.Paper code.now work.old port.old }
     requires none { IsClean went work.old.operands.items }
-    requires open { IsOpenPort C.Cable O.Paper port.old }
-    requires room { HasRoom code.now work.old }
     ensures { IfOk result (λ found. IfSome found (λ place. GoesOnAt C.Cable O.Paper
         (begun_run code.now turns (led_on went (state_of chosen.now work.old)) (state_of chosen.now work.old))
         port.old place port.new)) }
@@ -106,11 +98,9 @@ pub(crate) fn play_place<C: Cable, O: Paper, L: Ledger>(
     turns: u32,
     steps: &mut Steps<L>,
 ) -> Result<Option<u32>, Trouble>
-    requires countable { length code.now.instrs < 2 ^ 32 }
+    requires ready { CanTurn C.Cable O.Paper code.now work.old port.old }
     requires none { work.old.operands.items ≡ [] }
     requires unused { IsUnused work.old.memory }
-    requires open { IsOpenPort C.Cable O.Paper port.old }
-    requires room { HasRoom code.now work.old }
     ensures { IfOk result (λ found. IfSome found (λ place. GoesOnAt C.Cable O.Paper
         (play_from code.now chosen.now work.old.memory.variables.items turns) port.old place port.new)) }
 {

@@ -1,15 +1,10 @@
 //! The place at which a play over a cable goes on.
-ghost use Rattle.std.specs.Prelude.{◌≡◌, ◌<◌, [], false, length, OnOk, IfOk, IfSome};
-ghost use Rattle.tap_states.specs.declared.Tap.TheVariants as taps;
-ghost use Rattle.dev_card.specs.Board.{AllIn};
-ghost use Rattle.scan_paths.specs.Cables.{whole, WhereTold};
+ghost use Rattle.std.specs.Prelude.{◌≡◌, false, length, IfOk, IfSome};
+ghost use Rattle.scan_paths.specs.Cables.{whole};
 ghost use Rattle.scan_paths.specs.Scans.{lengths_of};
 ghost use Rattle.stapl_code.specs.Safe.{AllBelow};
-ghost use Rattle.machine_memory.specs.Acts.{IsUnused};
-ghost use Rattle.machine_memory.specs.RunRooms.{HasRoom};
-ghost use Rattle.machine_memory.specs.Zeros.{zeros_of_code};
-ghost use Rattle.stapl_machine.specs.Machines.{play_of, IsPrepared};
-ghost use Rattle.turn_places.specs.Places.{GoesOnOver, GoesOnTold};
+ghost use Rattle.stapl_machine.specs.Machines.{play_of, IsPrepared, IsResetCable};
+ghost use Rattle.turn_places.specs.Places.{IsFreshFor, GoesOnOver, GoesOnTold};
 
 use crate::places::play_place;
 use base::Steps;
@@ -32,12 +27,8 @@ fn place_on<C: Cable, O: Paper, L: Ledger>(
     turns: u32,
     steps: &mut Steps<L>,
 ) -> Result<Option<u32>, Trouble>
-    requires variables { work.old.memory.variables.items ≡ zeros_of_code code.now }
-    requires none { work.old.operands.items ≡ [] }
-    requires unused { IsUnused work.old.memory }
-    requires room { HasRoom code.now work.old }
-    requires reset { WhereTold (C.board cable.old) (AllIn taps.Reset) }
-    requires whole_cable { C.breakage cable.old ≡ whole }
+    requires fresh { IsFreshFor code.now work.old }
+    requires reset { IsResetCable C.Cable cable.old }
     requires whole { O.failed out.old ≡ false }
     ensures { IfOk result (λ found. IfSome found (GoesOnOver C.board (lengths_of base.now)
         (play_of code.now chosen.now turns) cable.old)) }
@@ -58,12 +49,8 @@ fn place_with<C: Cable, K: Sink, L: Ledger>(
     turns: u32,
     steps: &mut Steps<L>,
 ) -> Result<Option<u32>, Trouble>
-    requires variables { work.old.memory.variables.items ≡ zeros_of_code code.now }
-    requires none { work.old.operands.items ≡ [] }
-    requires unused { IsUnused work.old.memory }
-    requires room { HasRoom code.now work.old }
-    requires reset { WhereTold (C.board cable.old) (AllIn taps.Reset) }
-    requires whole_cable { C.breakage cable.old ≡ whole }
+    requires fresh { IsFreshFor code.now work.old }
+    requires reset { IsResetCable C.Cable cable.old }
     ensures { IfOk result (λ found. IfSome found (GoesOnOver C.board (lengths_of base.now)
         (play_of code.now chosen.now turns) cable.old)) }
 {

@@ -42,8 +42,8 @@ pub fn exact_results_wrap_around()
 /// -2147483648 by -1, wraps around to -2147483648.
 pub fn a_quotient_leaves_its_remainder()
     ensures division { (a b : ℤ) → FitsInteger a → b ≢ pos 0 → (a ≡ least_integer → b ≢ minus_one) → GivesDivision a b }
-    ensures wraps { combined Divide (Int least_integer) (Int minus_one) ≡ Known (Int least_integer) }
-    ensures leaves_nothing { combined Remainder (Int least_integer) (Int minus_one) ≡ Known (Int (pos 0)) }
+    ensures wraps { (combined Divide (Int least_integer) (Int minus_one) ≡ Known (Int least_integer)) ×
+        (combined Remainder (Int least_integer) (Int minus_one) ≡ Known (Int (pos 0))) }
     ensures one { (a b quotient remainder other rest : ℤ) → b ≢ pos 0 → IsDivided a b quotient remainder →
         IsDivided a b other rest → (quotient ≡ other) × (remainder ≡ rest) }
 {}
@@ -55,10 +55,9 @@ pub fn shifts_go_by_powers_of_two()
         GivesInteger (combined ShiftLeft (Int a) (Int (pos n))) (IsWrapped (a *ℤ pos (2 ^ n))) }
     ensures to_right { (a : ℤ) (n : ℕ) → n < 32 →
         GivesInteger (combined ShiftRight (Int a) (Int (pos n))) (IsRoundedDown a (2 ^ n)) }
-    ensures left_outside { (a n : ℤ) → (n <ℤ pos 0) ⊎ (pos 31 <ℤ n) →
-        combined ShiftLeft (Int a) (Int n) ≡ Faults ShiftCount }
-    ensures right_outside { (a n : ℤ) → (n <ℤ pos 0) ⊎ (pos 31 <ℤ n) →
-        combined ShiftRight (Int a) (Int n) ≡ Faults ShiftCount }
+    ensures outside { (a n : ℤ) → (n <ℤ pos 0) ⊎ (pos 31 <ℤ n) →
+        (combined ShiftLeft (Int a) (Int n) ≡ Faults ShiftCount) ×
+        (combined ShiftRight (Int a) (Int n) ≡ Faults ShiftCount) }
     ensures one { (a y z : ℤ) (divisor : ℕ) → IsRoundedDown a divisor y → IsRoundedDown a divisor z → y ≡ z }
 {}
 

@@ -14,9 +14,9 @@ returns-in_err-machine-clause-says g c =
 pub returns-in_err-ending-clause-says : goal.returns-in_err-ending-clause-says
 returns-in_err-ending-clause-says g c =
     says_failed _ _ _ _ _ c.from_residual-in_err-ending.result c.from_residual-in_err-ending.ensures.1
-    (run_said_front c.args.task.now.request.now (task_play c.args.code.now c.args.chosen.now c.args.task.now) c.check_ending.ensures c.in_err-ending.ensures.put)
+    (run_said_front c.args.task.now.request.now (task_play c.args.code.now c.args.chosen.now c.args.task.now) c.check_ending.ensures c.in_err-ending.ensures.plays)
 
 pub returns-clause-says : goal.returns-clause-says
 returns-clause-says g c =
     run_said c.args.task.now.request.now (task_play c.args.code.now c.args.chosen.now c.args.task.now) c.in_ok-ending.ending _
-    c.in_ok-ending.ensures.ended c.status_of.ensures c.in_ok-ending.ensures.put
+    c.in_ok-ending.ensures.plays.ended c.status_of.ensures c.in_ok-ending.ensures.plays.put

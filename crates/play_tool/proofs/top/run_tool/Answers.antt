@@ -19,9 +19,6 @@ returns-in-Ok-clause-answer g c = λ works.
 pub returns-in-Ok-clause-read : goal.returns-in-Ok-clause-read
 returns-in-Ok-clause-read g c = λ e. absurd (answer_status c.in-Ok.ensures.ran.holds.written.answer (subst IsFault (sym e) tt))
 
-pub returns-in-Ok-clause-nothing : goal.returns-in-Ok-clause-nothing
-returns-in-Ok-clause-nothing g c = λ e. absurd (answer_status c.in-Ok.ensures.ran.holds.written.answer (subst IsFault (sym e) tt))
-
 pub returns-in-Ok-clause-write : goal.returns-in-Ok-clause-write
 returns-in-Ok-clause-write g c = λ e. absurd (answer_status c.in-Ok.ensures.ran.holds.written.answer (subst IsFault (sym e) tt))
 

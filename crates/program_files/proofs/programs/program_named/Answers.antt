@@ -6,8 +6,12 @@ use Rattle.program_files.proofs.programs.program_named.Goals as goal
 
 pub returns-in-Ok-clause-text : goal.returns-in-Ok-clause-text
 returns-in-Ok-clause-text g c =
-    on_ok c.program_of.result (λ program. reads_text (g.S.Shelf.told c.args.shelf.now) c.args.path.now c.in-Ok.bytes.items program.text c.in-Ok.ensures.whole)
-    (rw c.deref.ensures.value at c.program_of.ensures.text)
+    on_ok c.program_of.result
+    (λ program is. reads_text (g.S.Shelf.told c.args.shelf.now) c.args.path.now c.in-Ok.bytes.items program.text c.in-Ok.ensures.whole is.text_is)
+    (rw c.deref.ensures.value at c.program_of.ensures.program)
+
+pub returns-in-Ok-clause-program : goal.returns-in-Ok-clause-program
+returns-in-Ok-clause-program g c = on_ok c.program_of.result (λ program is. is.is) c.program_of.ensures.program
 
 pub returns-in-Ok-clause-fault : goal.returns-in-Ok-clause-fault
 returns-in-Ok-clause-fault g c = λ piece line reason e.

@@ -5,6 +5,14 @@ use Rattle.stapl_player.specs.Plays.{whole_play, whole_ticks}
 use Rattle.quiet_runs.proofs.Judges.{watched_play}
 use Rattle.quiet_runs.proofs.watching.play_to.Goals as goal
 
+pub play-requires : goal.play-requires
+play-requires g c = record {
+  prepared = c.requires.ready.prepared;
+  chosen_below = c.requires.ready.below;
+  whole_cable = c.requires.ready.whole;
+  whole_lines = c.new-lines.ensures.whole;
+}
+
 pub returns-in-Ok-clause-played : goal.returns-in-Ok-clause-played
 returns-in-Ok-clause-played g c =
     let d = g.D.Device in let code = c.args.code.now in let chosen = c.args.chosen.now in let n = c.args.turns in let base = lengths_of c.args.base.now in

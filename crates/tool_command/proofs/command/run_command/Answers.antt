@@ -29,12 +29,18 @@ returns-in-Ok-clause-answer g c = λ _ _.
       compiled = λ q. absurd (has_no_mode words c.in-Some.text.now modes.Run text q.asked.mode);
     })
 
-pub returns-in-Err-clause-front : goal.returns-in-Err-clause-front
-returns-in-Err-clause-front g c = λ _ _.
+pub returns-in-Err-clause-write : goal.returns-in-Err-clause-write
+returns-in-Err-clause-write g c = λ _.
     let words : List (List ℕ) = map (string_bytes {Z = Global}) c.args.words.now in
     let text : text_asked HELP.now VERSION.now words ≡ Some c.in-Some.text.now = sym c.text_asked.ensures ∙ ap (option_map (λ text. text.now)) c.in-Some.is in
-    of_any_words (g.S.Shelf.told c.args.shelf.now) words (λ contents.
-    record { text = c.in-Some.text.now; status = _; answer = shown c.in-Some.text.now text; front = c.in-Err.ensures.front })
+    record {
+      cause = c.in-Err.ensures.cause.failed;
+      front = record {
+        of_answer = λ _. of_any_words (g.S.Shelf.told c.args.shelf.now) words (λ contents.
+            record { text = c.in-Some.text.now; status = _; answer = shown c.in-Some.text.now text; front = c.in-Err.ensures.front });
+        of_question = λ asks. absurd (false≢true (sym c.if-ask_question.false ∙ c.ask_question.ensures ∙ asks));
+      };
+    }
 
 pub returns-in-None-clause-answer : goal.returns-in-None-clause-answer
 returns-in-None-clause-answer g c = λ works _.
@@ -47,15 +53,27 @@ returns-in-None-clause-answer g c = λ works _.
       compiled = a.compiled;
     }) (c.run_tool.ensures.answer works)
 
-pub returns-in-None-clause-front : goal.returns-in-None-clause-front
-returns-in-None-clause-front g c = λ fault _.
+pub returns-in-None-clause-write : goal.returns-in-None-clause-write
+returns-in-None-clause-write g c = λ fault.
     let words : List (List ℕ) = map (string_bytes {Z = Global}) c.args.words.now in
     let none : text_asked HELP.now VERSION.now words ≡ None = sym c.text_asked.ensures ∙ ap (option_map (λ text. text.now)) c.in-None.is in
-    of_files_as (λ contents a. front_within_written (tool_answers HELP.now VERSION.now _ (WordsAnswer words (λ request. contents)) words none) a) (c.run_tool.ensures.front fault)
+    let failed = c.run_tool.ensures.write fault in
+    record {
+      cause = failed.cause;
+      front = record {
+        of_answer = λ _. of_files_as (λ contents a.
+            front_within_written (tool_answers HELP.now VERSION.now _ (WordsAnswer words (λ request. contents)) words none) a) failed.front;
+        of_question = λ asks. absurd (false≢true (sym c.if-ask_question.false ∙ c.ask_question.ensures ∙ asks));
+      };
+    }
 
 pub returns-in-None-clause-read : goal.returns-in-None-clause-read
 returns-in-None-clause-read g c = λ fault.
-    let cause = c.run_tool.ensures.read fault in record { path = cause.path; is_reached = by_tool cause.is_reached; rose = cause.rose }
+    let failed = c.run_tool.ensures.read fault in
+    record {
+      cause = record { path = failed.cause.path; is_reached = by_tool failed.cause.is_reached; rose = failed.cause.rose };
+      nothing = failed.nothing;
+    }
 
 -- A question.
 
@@ -69,28 +87,26 @@ returns-then-ask_question-clause-question g c = λ works asks.
 pub returns-then-ask_question-clause-read : goal.returns-then-ask_question-clause-read
 returns-then-ask_question-clause-read g c = λ e.
     let ran = c.run.ensures.ran in
-    let cause = c.run.ensures.shelf.read
-    (run_failed (question_status (first_of ran.contents) (map (string_bytes {Z = Global}) c.args.words.now)) _ _ c.run.result Read ran.holds.written (sym c.status_of.ensures ∙ e)) in
-    record { path = cause.path; is_reached = by_question cause.is_reached; rose = cause.rose }
-
-pub returns-then-ask_question-clause-nothing : goal.returns-then-ask_question-clause-nothing
-returns-then-ask_question-clause-nothing g c = λ e.
-    let ran = c.run.ensures.ran in
-    failed_wrote (question_status (first_of ran.contents) (map (string_bytes {Z = Global}) c.args.words.now)) _ _ c.run.result Read ran.holds.written (sym c.status_of.ensures ∙ e)
+    let answers = question_status (first_of ran.contents) (map (string_bytes {Z = Global}) c.args.words.now) in
+    let same = sym c.status_of.ensures ∙ e in
+    let cause = c.run.ensures.shelf.read (run_failed answers _ _ c.run.result Read ran.holds.written same) in
+    record {
+      cause = record { path = cause.path; is_reached = by_question cause.is_reached; rose = cause.rose };
+      nothing = failed_wrote answers _ _ c.run.result Read ran.holds.written same;
+    }
 
 pub returns-then-ask_question-clause-write : goal.returns-then-ask_question-clause-write
 returns-then-ask_question-clause-write g c = λ e.
     let ran = c.run.ensures.ran in
-    c.run.ensures.sink.write
-    (run_failed (question_status (first_of ran.contents) (map (string_bytes {Z = Global}) c.args.words.now)) _ _ c.run.result Write ran.holds.written (sym c.status_of.ensures ∙ e))
-
-pub returns-then-ask_question-clause-front : goal.returns-then-ask_question-clause-front
-returns-then-ask_question-clause-front g c = λ fault none. absurd (false≢true (sym none ∙ sym c.ask_question.ensures ∙ c.if-ask_question.true))
-
-pub returns-then-ask_question-clause-question_front : goal.returns-then-ask_question-clause-question_front
-returns-then-ask_question-clause-question_front g c = λ e asks.
-    of_files_as (λ contents ran. failed_wrote (question_status (first_of contents) (map (string_bytes {Z = Global}) c.args.words.now)) _ _ c.run.result Write ran.written
-    (sym c.status_of.ensures ∙ e)) c.run.ensures.ran
+    let words : List (List ℕ) = map (string_bytes {Z = Global}) c.args.words.now in
+    let same = sym c.status_of.ensures ∙ e in
+    record {
+      cause = c.run.ensures.sink.write (run_failed (question_status (first_of ran.contents) words) _ _ c.run.result Write ran.holds.written same);
+      front = record {
+        of_answer = λ none. absurd (false≢true (sym none ∙ sym c.ask_question.ensures ∙ c.if-ask_question.true));
+        of_question = λ asks. of_files_as (λ contents ran. failed_wrote (question_status (first_of contents) words) _ _ c.run.result Write ran.written same) ran;
+      };
+    }
 
 pub returns-then-ask_question-clause-memory : goal.returns-then-ask_question-clause-memory
 returns-then-ask_question-clause-memory g c = λ e.

@@ -28,11 +28,16 @@ pub rest_of_turn-requires-clause-room : goal.rest_of_turn-requires-clause-room
 rest_of_turn-requires-clause-room g c =
     let work = c.args.work.now in
     record {
-      countable = c.requires.countable;
-      room = c.requires.room;
-      few = none_hold c.args.code.now 0 (record work { next = 0 }) c.requires.room c.requires.none;
+      countable = c.requires.ready.countable;
+      room = c.requires.ready.room;
+      few = none_hold c.args.code.now 0 (record work { next = 0 }) c.requires.ready.room c.requires.none;
     }
 
-pub begun_place-requires-clause-room : goal.begun_place-requires-clause-room
-begun_place-requires-clause-room g c =
-    let work = c.args.work.now in room_kept c.args.code.now (record work { next = 0 }) c.rest_of_turn.new.work c.requires.room c.rest_of_turn.ensures.room
+pub begun_place-requires-clause-ready : goal.begun_place-requires-clause-ready
+begun_place-requires-clause-ready g c =
+    let work = c.args.work.now in
+    record {
+      countable = c.requires.ready.countable;
+      open_port = c.in-Ok.ensures.keeps.open_now;
+      room = room_kept c.args.code.now (record work { next = 0 }) c.rest_of_turn.new.work c.requires.ready.room c.rest_of_turn.ensures.room;
+    }

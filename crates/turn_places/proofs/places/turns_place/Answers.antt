@@ -15,13 +15,13 @@ loop-turn-init g c =
     let none : c.args.turns - 0 ≡ c.args.turns = omega arith in
     let all = run_of c.args.code.now c.args.turns c.args.start u in let count = run_ticks_of c.args.code.now c.args.turns c.args.start u in
     record {
-      open_now = c.requires.open;
-      room = c.requires.room;
+      open_now = c.requires.ready.open_port;
+      room = c.requires.ready.room;
       none = c.requires.none;
       within = omega arith;
       runs = runs_none m g.O.Paper c.args.port.now all (run_of c.args.code.now (c.args.turns - 0) c.args.start u) count
           (run_ticks_of c.args.code.now (c.args.turns - 0) c.args.start u) c.args.steps.now
-          (g.met.C.Cable.none_made c.args.port.now.cable.now) c.requires.open.whole_port (λ k. ap (λ n. run_of c.args.code.now n c.args.start u k) (sym none))
+          (g.met.C.Cable.none_made c.args.port.now.cable.now) c.requires.ready.open_port.whole_port (λ k. ap (λ n. run_of c.args.code.now n c.args.start u k) (sym none))
           (λ k. ap (λ n. c.args.steps.now + run_ticks_of c.args.code.now n c.args.start u k) none);
     }
 

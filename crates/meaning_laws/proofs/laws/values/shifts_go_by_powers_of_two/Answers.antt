@@ -6,7 +6,6 @@ pub returns : goal.returns
 returns c = record {
   to_left = shifted_left;
   to_right = shifted_right;
-  left_outside = left_outside;
-  right_outside = right_outside;
+  outside = λ a n out. (left_outside a n out, right_outside a n out);
   one = one_rounded;
 }
