@@ -13,7 +13,7 @@ use chain_sim::fit_board;
 use dev_card::{Desc, Device};
 use device_rack::{fill_rack, is_rack};
 use link_cable::{LinkCable, MemWire, Wire};
-use linked_play::play_linked;
+use link_play::play_linked;
 use scan_paths::BasePads;
 use stapl_checker::check;
 use stapl_codegen::generate;

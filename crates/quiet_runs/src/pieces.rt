@@ -9,19 +9,19 @@ ghost use Rattle.stapl_code.specs.Safe.{AllBelow};
 ghost use Rattle.stapl_machine.specs.Machines.{play_of, IsPrepared};
 ghost use Rattle.stapl_machine.specs.Turns.{piece_of};
 ghost use Rattle.padded_plays.specs.QuietPlays.{no_base};
-ghost use Rattle.turn_places.specs.Places.{GoesOnTold};
+ghost use Rattle.quiet_places.specs.Places.{GoesOnTold};
 ghost use Rattle.quiet_runs.specs.Verdicts.{GoesOnAlone, TellsPiece};
 
 use crate::silence::Silence;
 use base::Steps;
 use chain_sim::{Chain, fit_board};
 use dev_card::{Desc, Device};
+use quiet_places::place_after;
 use scan_paths::{BasePads, Cable};
 use stapl_machine::{Machine, piece_at};
 use std::alloc::{AllocError, Global};
 use std::marker::Brand;
 use std::sync::ledger::{Blank, Ledger};
-use turn_places::place_after;
 use valid_codes::Code;
 use written_cable::Trouble;
 

@@ -2,7 +2,7 @@ use Rattle.std.proofs.Common.{[], subst}
 use Rattle.std.specs.Prelude.{IfOk, IfSome}
 use Rattle.dev_card.specs.Padding.{BaseLengths}
 use Rattle.stapl_machine.specs.Machines.{play_of}
-use Rattle.turn_places.specs.Places.{GoesOnTold}
+use Rattle.quiet_places.specs.Places.{GoesOnTold}
 use Rattle.quiet_runs.proofs.pieces.place_counted.Goals as goal
 
 pub returns : goal.returns
