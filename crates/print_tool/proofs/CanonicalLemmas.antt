@@ -18,8 +18,10 @@ use Rattle.program_reports.specs.declared.checking.CheckWords.{CheckWords}
 use Rattle.program_reports.specs.Checks.{word_of, HasCheckWords, holds_none, holds_one}
 use Rattle.print_tool.specs.declared.status.PrintStatus.{PrintStatus}
 use Rattle.print_tool.specs.declared.status.PrintStatus.TheVariants.{Done}
-use Rattle.print_tool.specs.Answers.{TextAnswer, refused, too_large, printed}
-use Rattle.print_tool.specs.Canonical.{IsCanonicalOf}
+use Rattle.std.specs.Prelude.{IsSomeAnd}
+use Rattle.tool_frame.proofs.AnswerLemmas.{IsWithin}
+use Rattle.print_tool.specs.Answers.{TextAnswer, refused, too_large, printed, HeldAnswer, WordsAnswer, usage, asked}
+use Rattle.print_tool.specs.Canonical.{IsCanonicalOf, PromisedAnswer}
 use Rattle.print_tool.proofs.OneAnswer.{one_text_answer}
 
 -- ---- the check word
@@ -81,6 +83,20 @@ pub printed_is_canonical : (bytes text : List ℕ) (status : PrintStatus) → Te
 printed_is_canonical bytes text status (refused piece line reason fault) e = absurd cc
 printed_is_canonical bytes text status (too_large program is large) e = absurd cc
 printed_is_canonical bytes text status (printed program is small) e = program_canonical bytes program is small
+
+held_canonical : (held : Option (List ℕ)) (text : List ℕ) (status : PrintStatus) → HeldAnswer held text status → status ≡ Done →
+    IsSomeAnd held (λ bytes. IsCanonicalOf bytes text)
+held_canonical None text status a e = a
+held_canonical (Some bytes) text status a e = printed_is_canonical bytes text status a e
+
+words_canonical : (held : Option (List ℕ)) (words : List (List ℕ)) {text : List ℕ} {status : PrintStatus} → WordsAnswer held words text status → status ≡ Done →
+    IsSomeAnd held (λ bytes. IsCanonicalOf bytes text)
+words_canonical held words (usage n u) e = absurd cc
+words_canonical held words (asked path text status named a) e = held_canonical held text status a e
+
+-- what the words are answered, with what stands of it
+pub promised : (held : Option (List ℕ)) (words : List (List ℕ)) → IsWithin (WordsAnswer held words) (PromisedAnswer held words)
+promised held words = record { to = λ text status a. record { answer = a; same = words_canonical held words a } }
 
 again_done : (text : List ℕ) (own : List StmtTree) → IsProgram text own → canonical_text own ≡ text → TextAnswer text text Done
 again_done text own is e =

@@ -6,7 +6,7 @@ ghost use Rattle.tool_frame.specs.Frame.{SaysAndLeaves};
 ghost use Rattle.print_tool.specs.declared.help.TheConstants.{HELP, VERSION};
 ghost use Rattle.print_tool.specs.Statuses.{exit_code_of, no_fault_codes};
 ghost use Rattle.print_tool.specs.Words.{NamesProgram};
-ghost use Rattle.print_tool.specs.Answers.{WordsAnswer};
+ghost use Rattle.print_tool.specs.Canonical.{PromisedAnswer};
 
 use crate::answering::answer_file;
 use crate::words::program_path;
@@ -33,7 +33,7 @@ impl Tool for Printer {
 
     ghost reached = { λ _ words. NamesProgram words };
 
-    ghost answers = { λ words contents. WordsAnswer (first_of contents) words };
+    ghost answers = { λ words contents. PromisedAnswer (first_of contents) words };
 
     ghost leaves = { λ _ _ _ _ _. Unit {0} };
 

@@ -8,6 +8,7 @@ use Rattle.dev_card.specs.declared.desc.Desc.{Desc}
 use Rattle.dev_card.specs.Padding.{in_run}
 use Rattle.padded_plays.specs.QuietPlays.{IsQuietPlay}
 use Rattle.tool_frame.specs.Files.{first_of, second_of}
+use Rattle.tool_frame.proofs.AnswerLemmas.{IsWithin}
 use Rattle.named_files.specs.Boards.{HasBoard}
 use Rattle.named_files.proofs.BoardLemmas.{one_held}
 use Rattle.play_words.specs.declared.requests.PlayRequest.{PlayRequest}
@@ -22,7 +23,7 @@ use Rattle.quiet_tool.specs.declared.status.QuietStatus.{QuietStatus}
 use Rattle.quiet_tool.specs.declared.status.QuietStatus.TheVariants.{Quiet}
 use Rattle.quiet_tool.specs.Words.{AskAbout}
 use Rattle.quiet_tool.specs.Answers.{run_of, VerdictAnswer, quiet, unquiet, ChoiceAnswer, no_action, bad_choice, bad_place, judged, TextAnswer, refused, accepted, HeldAnswer, RequestAnswer, board_refused, board_read, WordsAnswer, usage, asked}
-use Rattle.quiet_tool.specs.Elsewhere.{PlaysElsewhere, IsAsAlone, IsQuietEverywhere}
+use Rattle.quiet_tool.specs.Elsewhere.{PlaysElsewhere, IsAsAlone, IsQuietEverywhere, PromisedAnswer}
 use Rattle.quiet_tool.proofs.WordLemmas.{one_asked}
 
 -- what an answer says that the play is quiet
@@ -121,3 +122,7 @@ module _ {words : List (List ℕ)} {contents : List (Option (List ℕ))} {other 
 pub quiet_everywhere : {words : List (List ℕ)} {contents : List (Option (List ℕ))} {said : List ℕ} {status : QuietStatus} → WordsAnswer words contents said status →
     status ≡ Quiet → IsQuietEverywhere words contents
 quiet_everywhere a e = λ other held q text status answer. as_alone q (words_found q.play q.devices q.about q.board a e) text status answer
+
+-- what the words are answered, with what stands of it
+pub promised : (words : List (List ℕ)) (contents : List (Option (List ℕ))) → IsWithin (WordsAnswer words contents) (PromisedAnswer words contents)
+promised words contents = record { to = λ text status a. record { answer = a; everywhere = quiet_everywhere a } }

@@ -17,7 +17,9 @@ use Rattle.play_tool.specs.Answers.{PlaysAction}
 use Rattle.play_tool.specs.Answers as plays
 use Rattle.play_tool.specs.Alone.{alone_request}
 use Rattle.quiet_tool.specs.Words.{AskAbout}
-use Rattle.quiet_tool.specs.Answers.{run_of}
+use Rattle.quiet_tool.specs.declared.status.QuietStatus.{QuietStatus}
+use Rattle.quiet_tool.specs.declared.status.QuietStatus.TheVariants.{Quiet}
+use Rattle.quiet_tool.specs.Answers.{run_of, WordsAnswer}
 
 -- Other words ask for a play of the same program: of the same action, with the same choices and turns, without the
 -- clocks, for a run of a board that has in a row the devices that the words ask about.
@@ -59,3 +61,9 @@ IsQuietEverywhere words contents =
     (text : List ℕ) (status : Status) →
     plays.WordsAnswer other (λ request. held) text status →
     IsAsAlone (second_of contents) q.played.request (run_of q.play.request.place q.devices) text status
+
+-- The answer to the words, with these contents of their files; and a play that is quiet is the same everywhere.
+pub record PromisedAnswer (words : List (List ℕ)) (contents : List (Option (List ℕ))) (text : List ℕ)
+    (status : QuietStatus) : Type 0 where
+  pub answer : WordsAnswer words contents text status
+  pub everywhere : status ≡ Quiet → IsQuietEverywhere words contents

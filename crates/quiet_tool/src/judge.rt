@@ -8,7 +8,7 @@ ghost use Rattle.play_tool.specs.ReadContents.{NamesFiles, IsReachedBy};
 ghost use Rattle.quiet_tool.specs.declared.help.TheConstants.{HELP, VERSION};
 ghost use Rattle.quiet_tool.specs.Statuses.{exit_code_of, no_fault_codes};
 ghost use Rattle.quiet_tool.specs.Words.{play_words};
-ghost use Rattle.quiet_tool.specs.Answers.{WordsAnswer};
+ghost use Rattle.quiet_tool.specs.Elsewhere.{PromisedAnswer};
 
 use crate::answering::answer_play;
 use crate::words::read_question;
@@ -39,7 +39,7 @@ impl Tool for QuietJudge {
 
     ghost reached = { λ told words. IsReachedBy told (play_words words) };
 
-    ghost answers = { λ words contents. WordsAnswer words contents };
+    ghost answers = { λ words contents. PromisedAnswer words contents };
 
     ghost leaves = { λ _ _ _ _ _. Unit {0} };
 

@@ -7,11 +7,13 @@ ghost use Rattle.named_files.specs.Contents.{NamesBoth, both_of, IsAskedAndReach
 ghost use Rattle.rewrite_tool.specs.declared.help.TheConstants.{HELP, VERSION};
 ghost use Rattle.rewrite_tool.specs.Statuses.{exit_code_of, no_fault_codes};
 ghost use Rattle.rewrite_tool.specs.Words.{Asks};
-ghost use Rattle.rewrite_tool.specs.Answers.{WordsAnswer};
+ghost use Rattle.rewrite_tool.specs.PlayedAlike.{PromisedAnswer};
 
 use crate::requests::answer_request;
 use crate::words::read_words;
 use crate::{RewriteStatus, help};
+use board_text::laws::each_board_can_be_fitted;
+use carried_padding::laws::a_carried_text_plays_as_its_program_with_base_padding;
 use named_files::put_usage;
 use std::alloc::Global;
 use tool_frame::{NoAnswer, Tool};
@@ -39,7 +41,7 @@ impl Tool for Rewriter {
 
     ghost reached = { λ told words. IsAskedAndReached (Asks words) told };
 
-    ghost answers = { λ words contents. WordsAnswer words (λ request. both_of contents) };
+    ghost answers = { λ words contents. PromisedAnswer words (both_of contents) };
 
     ghost leaves = { λ _ _ _ _ _. Unit {0} };
 
@@ -69,6 +71,8 @@ impl Tool for Rewriter {
         _loan: &mut (),
         lines: &mut Lines<K>,
     ) -> Result<RewriteStatus, NoAnswer> {
+        each_board_can_be_fitted();
+        a_carried_text_plays_as_its_program_with_base_padding();
         match read_words(words) {
             Ok(named) => answer_request(alloc, named, shelf, lines),
             Err(n) => {

@@ -6,13 +6,15 @@ use Rattle.quiet_tool.specs.Words.{play_words, HasUsage, AreRefused}
 use Rattle.quiet_tool.specs.Answers.{usage}
 use Rattle.quiet_tool.proofs.WordLemmas.{usage_is, no_request}
 use Rattle.quiet_tool.proofs.AnswerLemmas.{request_in_words}
+use Rattle.quiet_tool.proofs.Everywhere.{promised}
 use Rattle.quiet_tool.proofs.judge.QuietJudgeTool.answer.Goals as goal
 
 pub returns-in-Ok-clause-answers : goal.returns-in-Ok-clause-answers
 returns-in-Ok-clause-answers g c =
     let asks = c.in-Ok.ensures.play in
     of_request (g.S.Shelf.told c.args.shelf.now) asks c.answer_play.ensures.says (λ contents says. record {
-      says = says_within _ _ _ _ _ c.answer_play.result (request_in_words c.in-Ok.play contents asks) (λ same. same) says;
+      says = says_within _ _ _ _ _ c.answer_play.result
+          (record { to = λ text status a. (promised _ contents).to text status ((request_in_words c.in-Ok.play contents asks).to text status a) }) (λ same. same) says;
       left = tt;
     })
 
@@ -29,7 +31,7 @@ returns-in_err-put_usage-in-Err-Usage-clause-answers g c =
     let refused : HasUsage words c.in-Err-Usage.n = subst (AreRefused words) c.in-Err-Usage.field-0-is c.in-Err-Usage.ensures.refused in
     of_no_request (g.S.Shelf.told c.args.shelf.now) (no_request words _ refused) (λ contents. record {
       says = says_failed _ _ _ _ _ c.from_residual.result c.from_residual.ensures.1
-          (said_front _ (Usage _) (usage _ (usage_is (sym c.in-Err-Usage.n-is) refused)) c.in_err-put_usage-in-Err-Usage.ensures);
+          (said_front _ (Usage _) ((promised words contents).to _ (Usage _) (usage _ (usage_is (sym c.in-Err-Usage.n-is) refused))) c.in_err-put_usage-in-Err-Usage.ensures);
       left = tt;
     })
 
@@ -38,7 +40,7 @@ returns-in_ok-put_usage-in-Err-Usage-clause-answers g c =
     let words : List (List ℕ) = map (string_bytes {Z = Global}) c.args.words.now in
     let refused : HasUsage words c.in-Err-Usage.n = subst (AreRefused words) c.in-Err-Usage.field-0-is c.in-Err-Usage.ensures.refused in
     of_no_request (g.S.Shelf.told c.args.shelf.now) (no_request words _ refused) (λ contents. record {
-      says = said_text _ (usage _ (usage_is (sym c.in-Err-Usage.n-is) refused)) c.in_ok-put_usage-in-Err-Usage.ensures;
+      says = said_text _ ((promised words contents).to _ (Usage _) (usage _ (usage_is (sym c.in-Err-Usage.n-is) refused))) c.in_ok-put_usage-in-Err-Usage.ensures;
       left = tt;
     })
 
