@@ -26,7 +26,7 @@ pub(crate) struct Tables {
 }
 
 /// PutsNames an entry last, if none has its key yet.
-#[tactic(auto, using(crate::proofs::PutsNames::put_new))]
+#[tactic(auto, using(crate::proofs::Puts::put_new))]
 pub(crate) fn put<K: Eq + Hash + Drop, V: Drop>(
     map: &mut IndexMap<K, V>,
     key: K,
