@@ -64,18 +64,18 @@ pub fn play_linked<W: Wire, K: Sink, L: Ledger>(
     turns: u32,
     steps: &mut Steps<L>,
 ) -> Result<Ending, Trouble>
-    requires { CanPlay ⟦<LinkCable<W> as Cable>⟧ code.now chosen.now machine.old cable.old out.old }
+    requires { CanPlay ⟦<LinkCable<'static, W> as Cable>⟧ code.now chosen.now machine.old cable.old out.old }
 
     // Over a good wire to a link with this board, ending and text are those of the run on it, as those of a play over a
     // chain with this board are, if neither count rises.
     ensures as_chain { (cs : List Card) → IsGoodOver W.told W.is_steady cs cable.old →
-        (CableHasRisen ⟦<LinkCable<W> as Cable>⟧ cable.old cable.new → ⊥) →
+        (CableHasRisen ⟦<LinkCable<'static, W> as Cable>⟧ cable.old cable.new → ⊥) →
         (SinkHasRisen K.Sink out.old out.new → ⊥) → IsOk result × IfOk result (λ ending. HasRunOf (shown_of K.written)
         pins (whole_play code.now chosen.now turns (lengths_of base.now) (Told cs)) out.old ending out.new) }
 
     // The rest is that of the play.
-    ensures play { IsWholePlay ⟦<LinkCable<W> as Cable>⟧ K.Sink pins code.now chosen.now turns (lengths_of base.now)
-        cable.old out.old steps.old result cable.new out.new steps.new machine.new }
+    ensures play { IsWholePlay ⟦<LinkCable<'static, W> as Cable>⟧ K.Sink pins code.now chosen.now turns
+        (lengths_of base.now) cable.old out.old steps.old result cable.new out.new steps.new machine.new }
 {
     match play_told(machine, code, chosen, base, cable, out, pins, turns, steps) {
         Ok(ending) => Ok(ending),
