@@ -12,11 +12,12 @@ use Rattle.carried_plays.specs.CarriedTexts.{IsCarriedText, IsTooLarge}
 use Rattle.carried_plays.specs.OwnPaddings.{has_own_padding}
 use Rattle.carried_padding.specs.CarriedPadding.{CarriesPaddingOf}
 use Rattle.rewrite_tool.specs.declared.status.RewriteStatus.{RewriteStatus}
-use Rattle.rewrite_tool.specs.declared.status.RewriteStatus.TheVariants.{Done}
+use Rattle.rewrite_tool.specs.declared.status.RewriteStatus.TheVariants.{Done, Usage}
 use Rattle.tool_frame.proofs.AnswerLemmas.{IsWithin}
 use Rattle.named_files.specs.Boards.{HasBoard}
 use Rattle.named_files.specs.Contents.{Contents}
-use Rattle.rewrite_tool.specs.Words.{Request, IsRequest}
+use Rattle.named_files.specs.Texts.{usage_line}
+use Rattle.rewrite_tool.specs.Words.{Request, IsRequest, IsUsage}
 use Rattle.rewrite_tool.specs.Answers.{ProgramAnswer, refused, bad_place, own_padding, too_large, rewritten, FileAnswer, RequestAnswer, board_refused, board_read, WordsAnswer, usage, asked}
 use Rattle.rewrite_tool.specs.PlayedAlike.{IsPlayedAlike, PlaysAlike, PromisedAnswer}
 
@@ -85,3 +86,7 @@ words_alike accepted plays fits words contents (asked request text status asks a
 pub promised : AreAccepted → PlayAlike → AreFitted → (words : List (List ℕ)) (contents : Contents) →
     IsWithin (WordsAnswer words (λ request. contents)) (PromisedAnswer words contents)
 promised accepted plays fits words contents = record { to = λ text status a. record { answer = a; alike = words_alike accepted plays fits words contents a } }
+
+-- and the same of words that are refused
+pub promised_usage : (words : List (List ℕ)) (contents : Contents) (n : ℕ) → IsUsage words n → PromisedAnswer words contents (usage_line n) (Usage n)
+promised_usage words contents n u = record { answer = usage n u; alike = λ e. absurd cc }

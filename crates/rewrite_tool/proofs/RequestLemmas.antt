@@ -21,7 +21,9 @@ use Rattle.rewrite_tool.specs.declared.status.RewriteStatus.{RewriteStatus}
 use Rattle.rewrite_tool.specs.declared.status.RewriteStatus.TheVariants.{BoardRefused}
 use Rattle.rewrite_tool.specs.Words.{Request, IsRequest, Asks}
 use Rattle.rewrite_tool.specs.Answers.{FileAnswer, RequestAnswer, board_refused, board_read, WordsAnswer, usage, asked, Answer}
+use Rattle.rewrite_tool.specs.PlayedAlike.{PromisedAnswer}
 use Rattle.rewrite_tool.proofs.WordLemmas.{one_asked}
+use Rattle.rewrite_tool.proofs.PlayedAlike.{AreAccepted, PlayAlike, AreFitted, promised}
 
 -- ---- the board is right
 
@@ -69,13 +71,13 @@ request_of_file sink old new told request r devices reads o =
     of_both told request.files reads.held reads.read o (λ program.
     says_within sink _ _ old new r (file_within request devices reads.held program reads.holds) (λ u. u))
 
--- the words are this request
-pub words_of_request : {K : Type 0} (sink : SinkOf K) (old new : Lines K) (told : Option (List (List ℕ × List ℕ))) {words : List (List ℕ)} (request : Request)
-    (r : Result RewriteStatus NoAnswer) → IsRequest words request → RequestSays sink told request old new r →
-    OfAsked (Asks words) told (λ contents. Says sink (WordsAnswer words (λ request. contents)) (IsSilent old new) old new r)
-words_of_request sink old new told {words = words} request r asks o =
+-- the words are this request, and a program that is written plays alike
+pub words_of_request : AreAccepted → PlayAlike → AreFitted → {K : Type 0} (sink : SinkOf K) (old new : Lines K) (told : Option (List (List ℕ × List ℕ))) {words : List (List ℕ)}
+    (request : Request) (r : Result RewriteStatus NoAnswer) → IsRequest words request → RequestSays sink told request old new r →
+    OfAsked (Asks words) told (λ contents. Says sink (PromisedAnswer words contents) (IsSilent old new) old new r)
+words_of_request accepted plays fits sink old new told {words = words} request r asks o =
     of_asked (Asks words) (one_asked words) told (request.run, asks) o (λ contents.
-    says_within sink _ _ old new r (record { to = λ text status a. asked request text status asks a }) (λ u. u))
+    says_within sink _ _ old new r (record { to = λ text status a. (promised accepted plays fits words contents).to text status (asked request text status asks a) }) (λ u. u))
 
 -- the board is refused
 module _ {K : Type 0} {sink : SinkOf K} {old new : Lines K} (told : Option (List (List ℕ × List ℕ))) (request : Request) (line : ℕ) (reason : BoardReason)
