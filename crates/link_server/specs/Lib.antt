@@ -1,3 +1,6 @@
 pub mod Orders
 pub mod Runs
 pub mod Ends
+pub mod Clients
+pub mod Drives
+pub mod DriveLaws
