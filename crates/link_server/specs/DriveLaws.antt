@@ -2,11 +2,11 @@
 use Rattle.std.proofs.Common.{◌≡◌, ◌≤◌, ℕ, Bool, true, false, List, [], ◌∷◌, ◌++◌, map, length, refl, sym, ap, subst, ◌∙◌, append_assoc, arith}
 use Rattle.std.proofs.lemmas.List.{map-append, append-nil}
 use Rattle.std.proofs.lemmas.Bool.{false≢true}
-use Rattle.dev_card.specs.Board.{Clock, tdos}
-use Rattle.scan_paths.specs.Cables.{Signal, clocks_in}
+use Rattle.dev_card.specs.Board.{Input, Clock, clock_with, tdos}
+use Rattle.scan_paths.specs.Cables.{Signal, pulsed, clocks_in, input_of}
 use Rattle.scan_paths.proofs.Signals.{clocks_in_both}
 use Rattle.link_server.specs.Runs.{digit_of}
-use Rattle.link_server.specs.Clients.{bytes_of_signal, bytes_of_signals, answers_of}
+use Rattle.link_server.specs.Clients.{bytes_of_input, bytes_of_inputs, bytes_of_signal, bytes_of_signals, answers_of}
 use Rattle.link_server.specs.Drives.{Carrying, ClientEnd, HasDriven, IsStill, Drives}
 
 pub bytes_both : (sleeps : Bool) (xs ys : List Signal) →
@@ -46,6 +46,38 @@ driven carried sleeps old new signals went = record {
   went = subst (λ v. carried old.wire v (answers_of signals ++ []) new.wire) (sym (append-nil (bytes_of_signals sleeps signals)))
       (subst (λ v. carried old.wire (bytes_of_signals sleeps signals) v new.wire) (sym (append-nil (answers_of signals))) went);
 }
+
+-- a call failed after a front of the bytes of these
+pub driven_front : {W : Type 0} (carried : Carrying W) (sleeps : Bool) (old new : ClientEnd W) (pending : List Signal)
+    (more rest uncounted : List ℕ) → length pending ≤ 64 → new.is_broken ≡ true →
+    bytes_of_signals sleeps pending ≡ more ++ rest → carried old.wire more uncounted new.wire →
+    HasDriven carried sleeps old [] new
+driven_front carried sleeps old new pending more rest uncounted few broken parts went = record {
+  pending = pending;
+  few = few;
+  more = more;
+  rest = rest;
+  parts = parts;
+  uncounted = uncounted;
+  no_more = λ e. absurd (false≢true (sym e ∙ broken));
+  no_uncounted = λ e. absurd (false≢true (sym e ∙ broken));
+  went = went;
+}
+
+-- the bytes of clocks are those of their inputs
+pub bytes_pulsed : (sleeps : Bool) (clocks : List Clock) →
+    bytes_of_signals sleeps (pulsed clocks) ≡ bytes_of_inputs (map input_of clocks)
+bytes_pulsed sleeps [] = refl
+bytes_pulsed sleeps (k ∷ ks) = ap (λ v. bytes_of_input (input_of k) ++ v) (bytes_pulsed sleeps ks)
+
+-- clocks of which no TDO is known
+abbrev pub unanswered : List Input → List Clock
+unanswered inputs = map (λ i. clock_with i false) inputs
+
+pub bytes_unanswered : (sleeps : Bool) (inputs : List Input) →
+    bytes_of_signals sleeps (pulsed (unanswered inputs)) ≡ bytes_of_inputs inputs
+bytes_unanswered sleeps [] = refl
+bytes_unanswered sleeps (i ∷ is) = ap (λ v. bytes_of_input i ++ v) (bytes_unanswered sleeps is)
 
 pub nothing_driven : {W : Type 0} (carried : Carrying W) (sleeps : Bool) → NoneCarried carried → (end : ClientEnd W) →
     Drives carried sleeps end [] end

@@ -4,3 +4,4 @@ pub mod Ends
 pub mod Clients
 pub mod Drives
 pub mod DriveLaws
+pub mod Counts
