@@ -1,3 +1,4 @@
 pub mod WireLemmas
 pub mod MemLemmas
-mod CableLemmas
+pub mod CarryLemmas
+pub mod CableLemmas

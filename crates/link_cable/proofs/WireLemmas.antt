@@ -1,5 +1,5 @@
 -- Calls of a wire in a row.
-use Rattle.std.proofs.Common.{◌≡◌, ◌≢◌, ◌<◌, ◌≤◌, ◌+◌, ◌-◌, ◌*◌, ◌/◌, ◌%◌, ◌==◌, nat_eq, ℕ, zero, suc, List, [], ◌∷◌, ◌++◌, length, take, drop, refl, sym, ap, subst, ◌∙◌, Bool, true, false, ◌&&◌, cond, Option, Some, None, slice_get, arith, append_assoc, length-append}
+use Rattle.std.proofs.Common.{◌≡◌, ◌≢◌, ◌<◌, ◌≤◌, ◌+◌, ◌-◌, ◌*◌, ◌/◌, ◌%◌, ◌==◌, nat_eq, ℕ, zero, suc, List, [], ◌∷◌, ◌++◌, length, take, drop, map, refl, sym, ap, subst, ◌∙◌, Bool, true, false, ◌&&◌, cond, Option, Some, None, slice_get, arith, append_assoc, length-append}
 use Rattle.std.specs.Prelude.{slice_index_or}
 use Rattle.std.specs.Option.{option_map}
 use Rattle.std.proofs.Math.ListN.{take-append-drop}
@@ -8,17 +8,21 @@ use Rattle.std.proofs.lemmas.Bool.Decides.{nat_tests}
 use Rattle.std.proofs.lemmas.List.{append-nil, length-take-le, length-drop}
 use Rattle.std.proofs.lemmas.Option.{none-some, same_Some}
 use Rattle.base.specs.Bits.{low_bits, bit_value}
-use Rattle.dev_card.specs.Clocks.{is_nil}
+use Rattle.base.proofs.NumberBits.{length-low_bits}
+use Rattle.dev_card.specs.Clocks.{is_nil, part_inputs}
 use Rattle.dev_card.specs.Blocks.{block_inputs}
 use Rattle.dev_card.proofs.ScanLines.{after_none}
 use Rattle.dev_card.specs.Card.{Card}
-use Rattle.dev_card.specs.Board.{Input, Clock, clock_with, board_tdo, board_step, board_after}
+use Rattle.dev_card.specs.Board.{Input, Clock, clock_with, board_tdo, board_step, board_after, tdos}
 use Rattle.link_server.specs.declared.link.LinkState.{LinkState}
 use Rattle.link_server.specs.declared.link.LinkState.TheVariants as states
 use Rattle.link_server.specs.Runs.{LinkAt, link_after, answers_to, is_open, after_byte, answer_to_byte, digit_of}
+use Rattle.link_server.specs.Clients.{bytes_of_input, bytes_of_inputs}
+use Rattle.link_server.specs.Drives.{Carrying}
+use Rattle.link_server.specs.DriveLaws.{NoneCarried, BothCarried}
 use Rattle.link_server.proofs.FeedLemmas.{one_at_most}
 use Rattle.link_server.proofs.Cuts.{end_joined, answers_joined}
-use Rattle.link_cable.specs.Wires.{WireState, sent, told_sent, received, told_received, HasSent, HasReceived, HasRoom, AnswerWaits, is_none, board_in, told_board, IsGoodWire, HasGiven, bytes_of_clock, IsClockedOver, IsShiftedOver}
+use Rattle.link_cable.specs.Wires.{WireState, sent, told_sent, received, told_received, HasSent, HasReceived, HasRoom, AnswerWaits, is_none, board_in, told_board, IsGoodWire, HasGiven, HasBrokenAmong, bytes_of_clock, IsClockedOver, HasClocked, IsShiftedOver, HasShiftedOver}
 
 -- ---- bytes that are sent
 
@@ -212,8 +216,19 @@ good_digit o mid new steady tms tdi answer m h none g =
 
 -- ---- n clocks
 
-pub no_clocks : (o : Option WireState) (tdi : ℕ) (last : Bool) → IsShiftedOver o (block_inputs tdi 0 last) 0 o
-no_clocks o tdi last = record { clocks = []; went_in = refl; seen = λ cs e. refl; cards = after_none (told_board o); bits = refl }
+length-part : (last : Bool) (bits : List Bool) → length (part_inputs last bits) ≡ length bits
+length-part last [] = refl
+length-part last (b ∷ bits) = ap suc (length-part last bits)
+
+pub length-block : (tdi n : ℕ) (last : Bool) → length (block_inputs tdi n last) ≡ n
+length-block tdi n last = length-part last (low_bits n tdi) ∙ length-low_bits n tdi
+
+no_clocks : (o : Option WireState) → IsShiftedOver o [] [] o
+no_clocks o = record { went_in = refl; seen = λ cs e. refl; cards = after_none (told_board o) }
+
+pub none_shifted : {W : Type 0} (told : W → Option WireState) (carried : Carrying W) → NoneCarried carried → (w : W) (tdi : ℕ) (last : Bool) →
+    HasShiftedOver told carried w (block_inputs tdi 0 last) 0 w
+none_shifted told carried none w tdi last = record { clocks = []; over = no_clocks (told w); bits = refl; went = none w }
 
 abbrev first_input : (last : Bool) (m tdi : ℕ) → Input
 first_input last m tdi = record { tms = last && is_nil (low_bits m (tdi / 2)); tdi = nat_eq (tdi % 2) 1 }
@@ -229,28 +244,73 @@ last_of n m x last e = ap (λ k. last && (k == 1)) e ∙ ap (λ t. last && t) (n
     none_left (suc m) = two_is_more m
 
 -- one clock, and the clocks of the rest
-joined : (o mid new : Option WireState) (i : Input) (is : List Input) (bit : Bool) (rest : ℕ) → IsClockedOver o i.tms i.tdi bit mid → IsShiftedOver mid is rest new
-    → IsShiftedOver o (i ∷ is) (bit_value bit + 2 * rest) new
-joined o mid new i is bit rest k h = record {
-  clocks = clock_with i bit ∷ h.clocks;
+joined : (o mid new : Option WireState) (i : Input) (is : List Input) (bit : Bool) (clocks : List Clock) → IsClockedOver o i.tms i.tdi bit mid →
+    IsShiftedOver mid is clocks new → IsShiftedOver o (i ∷ is) (clock_with i bit ∷ clocks) new
+joined o mid new i is bit clocks k h = record {
   went_in = ap (λ (z : List Input). i ∷ z) h.went_in;
   seen = λ cs e.
       let there : told_board mid ≡ Some (board_step cs i.tms i.tdi) = k.cards ∙ ap (option_map (λ cs. board_step cs i.tms i.tdi)) e in
-      ap (λ b. clock_with i b ∷ h.clocks) (k.seen cs e) ∙ ap (λ (z : List Clock). clock_with i (board_tdo cs i.tdi) ∷ z) (h.seen (board_step cs i.tms i.tdi) there);
+      ap (λ b. clock_with i b ∷ clocks) (k.seen cs e) ∙ ap (λ (z : List Clock). clock_with i (board_tdo cs i.tdi) ∷ z) (h.seen (board_step cs i.tms i.tdi) there);
   cards = h.cards ∙ ap (option_map (λ cs. board_after cs is)) k.cards ∙ twice (told_board o);
-  bits = ap (λ r. bit_value bit + 2 * r) h.bits;
 }
   where
     twice : (b : Option (List Card)) → option_map (λ cs. board_after cs is) (option_map (λ cs. board_step cs i.tms i.tdi) b) ≡ option_map (λ cs. board_after cs (i ∷ is)) b
     twice None = refl
     twice (Some cs) = refl
 
-pub clock_and_rest : (o mid new : Option WireState) (tdi n m rest : ℕ) (last tms bit : Bool) (value : ℕ) → n ≡ suc m → tms ≡ (last && (n == 1))
-    → IsClockedOver o tms (nat_eq (tdi % 2) 1) bit mid → IsShiftedOver mid (block_inputs (tdi / 2) m last) rest new → value ≡ bit_value bit + 2 * rest
-    → IsShiftedOver o (block_inputs tdi n last) value new
-clock_and_rest o mid new tdi n m rest last tms bit value e t k h v =
-    let k' : IsClockedOver o (last && is_nil (low_bits m (tdi / 2))) (nat_eq (tdi % 2) 1) bit mid =
-    subst (λ tms. IsClockedOver o tms (nat_eq (tdi % 2) 1) bit mid) (t ∙ last_of n m (tdi / 2) last e) k in
-    subst (λ v. IsShiftedOver o (block_inputs tdi n last) v new) (sym v)
-    (subst (λ n. IsShiftedOver o (block_inputs tdi n last) (bit_value bit + 2 * rest) new) (sym e)
-    (joined o mid new (first_input last m tdi) (block_inputs (tdi / 2) m last) bit rest k' h))
+module _ {W : Type 0} (told : W → Option WireState) (carried : Carrying W) (both : BothCarried carried) (a b c : W) where
+  shifted_on : (i : Input) (is : List Input) (bit : Bool) (rest : ℕ) → HasClocked told carried a i.tms i.tdi bit b →
+      HasShiftedOver told carried b is rest c → HasShiftedOver told carried a (i ∷ is) (bit_value bit + 2 * rest) c
+  shifted_on i is bit rest k h = record {
+    clocks = clock_with i bit ∷ h.clocks;
+    over = joined (told a) (told b) (told c) i is bit h.clocks k.over h.over;
+    bits = ap (λ r. bit_value bit + 2 * r) h.bits;
+    went = both a b c (bytes_of_input i) (bytes_of_inputs is) (digit_of bit ∷ []) (map digit_of (tdos h.clocks)) k.went h.went;
+  }
+
+  -- a call failed among the bytes of the first clock
+  broken_first : (i : Input) (is : List Input) → HasBrokenAmong carried a (bytes_of_input i) b → HasBrokenAmong carried a (bytes_of_inputs (i ∷ is)) b
+  broken_first i is h = record {
+    more = h.more;
+    rest = h.rest ++ bytes_of_inputs is;
+    parts = ap (λ v. v ++ bytes_of_inputs is) h.parts ∙ append_assoc h.more h.rest (bytes_of_inputs is);
+    uncounted = h.uncounted;
+    went = h.went;
+  }
+
+  -- or after it
+  broken_on : (i : Input) (is : List Input) (bit : Bool) → HasClocked told carried a i.tms i.tdi bit b →
+      HasBrokenAmong carried b (bytes_of_inputs is) c → HasBrokenAmong carried a (bytes_of_inputs (i ∷ is)) c
+  broken_on i is bit k h = record {
+    more = bytes_of_input i ++ h.more;
+    rest = h.rest;
+    parts = ap (λ v. bytes_of_input i ++ v) h.parts ∙ sym (append_assoc (bytes_of_input i) h.more h.rest);
+    uncounted = digit_of bit ∷ h.uncounted;
+    went = both a b c (bytes_of_input i) h.more (digit_of bit ∷ []) h.uncounted k.went h.went;
+  }
+
+  -- the same of the inputs of a block
+  pub clock_and_rest : (tdi n m rest : ℕ) (last tms bit : Bool) (value : ℕ) → n ≡ suc m → tms ≡ (last && (n == 1)) →
+      HasClocked told carried a tms (nat_eq (tdi % 2) 1) bit b → HasShiftedOver told carried b (block_inputs (tdi / 2) m last) rest c →
+      value ≡ bit_value bit + 2 * rest → HasShiftedOver told carried a (block_inputs tdi n last) value c
+  clock_and_rest tdi n m rest last tms bit value e t k h v =
+      let k' : HasClocked told carried a (last && is_nil (low_bits m (tdi / 2))) (nat_eq (tdi % 2) 1) bit b =
+      subst (λ tms. HasClocked told carried a tms (nat_eq (tdi % 2) 1) bit b) (t ∙ last_of n m (tdi / 2) last e) k in
+      subst (λ v. HasShiftedOver told carried a (block_inputs tdi n last) v c) (sym v)
+      (subst (λ n. HasShiftedOver told carried a (block_inputs tdi n last) (bit_value bit + 2 * rest) c) (sym e)
+      (shifted_on (first_input last m tdi) (block_inputs (tdi / 2) m last) bit rest k' h))
+
+  pub first_failed : (tdi n m : ℕ) (last tms : Bool) → n ≡ suc m → tms ≡ (last && (n == 1)) →
+      HasBrokenAmong carried a (bytes_of_clock tms (nat_eq (tdi % 2) 1)) b → HasBrokenAmong carried a (bytes_of_inputs (block_inputs tdi n last)) b
+  first_failed tdi n m last tms e t h =
+      subst (λ n. HasBrokenAmong carried a (bytes_of_inputs (block_inputs tdi n last)) b) (sym e)
+      (broken_first (first_input last m tdi) (block_inputs (tdi / 2) m last)
+      (subst (λ tms. HasBrokenAmong carried a (bytes_of_clock tms (nat_eq (tdi % 2) 1)) b) (t ∙ last_of n m (tdi / 2) last e) h))
+
+  pub rest_failed : (tdi n m : ℕ) (last tms bit : Bool) → n ≡ suc m → tms ≡ (last && (n == 1)) →
+      HasClocked told carried a tms (nat_eq (tdi % 2) 1) bit b → HasBrokenAmong carried b (bytes_of_inputs (block_inputs (tdi / 2) m last)) c →
+      HasBrokenAmong carried a (bytes_of_inputs (block_inputs tdi n last)) c
+  rest_failed tdi n m last tms bit e t k h =
+      subst (λ n. HasBrokenAmong carried a (bytes_of_inputs (block_inputs tdi n last)) c) (sym e)
+      (broken_on (first_input last m tdi) (block_inputs (tdi / 2) m last) bit
+      (subst (λ tms. HasClocked told carried a tms (nat_eq (tdi % 2) 1) bit b) (t ∙ last_of n m (tdi / 2) last e) k) h)

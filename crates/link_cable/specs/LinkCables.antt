@@ -1,12 +1,14 @@
 -- What a cable over a wire stands over, and which board it tells. The rules are this profile's.
 use Rattle.std.proofs.Common.{◌≡◌, ◌⊎◌, ◌+◌, ◌&&◌, not, ℕ, Result, Bool, true, false, cond, List, Option, Some, None, refl, subst}
-use Rattle.std.specs.Prelude.{IsOk}
+use Rattle.std.specs.Prelude.{IsOk, OnOk}
 use Rattle.std.specs.Borrow.{MutBor}
 use Rattle.std.proofs.lemmas.Option.{none-some, same_Some}
 use Rattle.dev_card.specs.Card.{Card}
 use Rattle.dev_card.specs.Sound.{AllSound}
 use Rattle.tool_io.specs.Causes.{IsSaturated}
 use Rattle.scan_paths.specs.Cables.{Breakage, Signal, whole_if, IsCableKept}
+use Rattle.link_server.specs.Counts.{CountStill}
+use Rattle.link_server.specs.Drives.{Carrying, ClientEnd, Drives}
 use Rattle.link_cable.specs.declared.link_cable.LinkCable.{LinkCable}
 use Rattle.link_cable.specs.declared.wire.Wire.{Ghosts as WireOf}
 use Rattle.link_cable.specs.Wires.{WireState, is_in_step, told_board, IsGoodWire}
@@ -56,9 +58,16 @@ cable_breakage is_ready c = whole_if (not c.is_broken && is_ready (wire_of c))
 abbrev pub IsGoodCable : {W : Type 0} → (W → Option WireState) → (W → Bool) → LinkCable W → Type 0
 IsGoodCable told is_steady c = IsGoodWire (told (wire_of c)) (is_steady (wire_of c))
 
--- over a good wire a call is Ok, and the wire is good again
-abbrev pub GoesWell : {W T E : Type 0} → (W → Option WireState) → (W → Bool) → LinkCable W → LinkCable W → Result T E → Type 0
-GoesWell told is_steady old new result = IsGoodCable told is_steady old → IsOk result × IsGoodCable told is_steady new
+-- the count stands as it stood
+abbrev pub IsCalm : {W : Type 0} → (W → ℕ) → (W → Type 0) → LinkCable W → LinkCable W → Type 0
+IsCalm faults is_last old new =
+    CountStill (cable_count faults old) (cable_count faults new) (IsCountLast is_last old) (IsCountLast is_last new)
+
+-- What a call says beside the rules of cables, by its result: the count rises exactly with a failure, and over a good wire
+-- the call is Ok, and the wire is good again.
+pub record GoesWell {W T E : Type 0} (wire : WireOf W) (old new : LinkCable W) (result : Result T E) : Type 0 where
+  pub calm : OnOk result (IsCalm wire.faults wire.is_last old new)
+  pub well : IsGoodCable wire.told wire.is_steady old → IsOk result × IsGoodCable wire.told wire.is_steady new
 
 -- no signal of the lines is written, so their count is always 0
 abbrev pub no_faults : {W : Type 0} → LinkCable W → ℕ
@@ -73,6 +82,27 @@ KeepsLinkCable wire old new result =
     IsCableKept (cable_count wire.faults) (IsCountLast wire.is_last) no_faults IsNever (cable_breakage wire.is_ready)
     old new result
 
--- signals lead from a cable to one over the same wire
-abbrev pub leads : {W : Type 0} → LinkCable W → List Signal → LinkCable W → Type 0
-leads old signals new = IsOverSame old new
+-- the cable's end of its wire
+abbrev pub end_of : {W : Type 0} → LinkCable W → ClientEnd W
+end_of c = record { is_broken = c.is_broken; wire = wire_of c }
+
+-- Signals lead from a cable to one over the same wire: their bytes went over it, and their answers came. Over a good wire
+-- no call fails, and the count stands as it stood.
+module _ {W : Type 0} (told : W → Option WireState) (carried : Carrying W) (is_steady : W → Bool) (faults : W → ℕ)
+    (is_last : W → Type 0) where
+  pub record StaysGood (old new : LinkCable W) : Type 0 where
+    pub good : IsGoodCable told is_steady new
+    pub unbroken : new.is_broken ≡ false
+    pub calm : IsCalm faults is_last old new
+
+  pub record Leads (old : LinkCable W) (signals : List Signal) (new : LinkCable W) : Type 0 where
+    pub same_wire : IsOverSame old new
+    pub drives : Drives carried false (end_of old) signals (end_of new)
+    pub stays : old.is_broken ≡ false → IsGoodCable told is_steady old → StaysGood old new
+
+-- the same of all ghost members of the wire
+abbrev pub LeadsOver : {W : Type 0} → WireOf W → LinkCable W → List Signal → LinkCable W → Type 0
+LeadsOver wire = Leads wire.told wire.carried wire.is_steady wire.faults wire.is_last
+
+abbrev pub StaysGoodOver : {W : Type 0} → WireOf W → LinkCable W → LinkCable W → Type 0
+StaysGoodOver wire = StaysGood wire.told wire.carried wire.is_steady wire.faults wire.is_last

@@ -13,7 +13,7 @@ use Rattle.chain_sim.specs.RunLaws.{told_sound}
 use Rattle.link_server.specs.declared.link.Link.{Link}
 use Rattle.link_server.specs.Runs.{new_link}
 use Rattle.link_cable.specs.declared.mem_wire.MemWireOf.{MemWireOf}
-use Rattle.link_cable.specs.Wires.{WireState, is_none, most_waiting}
+use Rattle.link_cable.specs.Wires.{WireState, CarriesTold, is_none, most_waiting}
 
 -- the link with the cards at some places of a rack as its board, if all are there, and these answers
 abbrev pub told_with : Option (List Card) → Link → List ℕ → Option WireState
@@ -52,9 +52,12 @@ over_some rack places link waiting s ready e =
 abbrev pub IsOverRack : {D R : Type 0} → MemWireOf D → MutBor R → Type 0
 IsOverRack wire rack = wire.rack.ghost_name ≡ rack.ghost_name
 
--- a wire in memory: what it tells, whether it is steady and ready, its count and when that stands at its last value
+-- a wire in memory: what it tells and carries, whether it is steady and ready, its count and when that stands at its last value
 abbrev pub mem_told : {D : Type 0} → (D → Option SoundCard) → MemWireOf D → Option WireState
 mem_told fitted w = told_over (map fitted w.rack.now.items) w.places.now w.link w.waiting
+
+abbrev pub MemCarries : {D : Type 0} → (D → Option SoundCard) → MemWireOf D → List ℕ → List ℕ → MemWireOf D → Type 0
+MemCarries fitted old bytes answers new = CarriesTold (mem_told fitted old) bytes answers (mem_told fitted new)
 
 abbrev pub mem_steady : {D : Type 0} → MemWireOf D → Bool
 mem_steady w = is_none w.failing.items

@@ -4,7 +4,7 @@ ghost use Rattle.tool_io.specs.Causes.{IsSaturated, CountKept, CountRose, raised
 ghost use Rattle.base.specs.Bits.{bit_value};
 ghost use Rattle.dev_card.specs.Blocks.{block_inputs};
 ghost use Rattle.link_server.specs.Runs.{digit_of};
-ghost use Rattle.link_cable.specs.Wires.{told_sent, HasRoom, AnswerWaits, HasGiven, bytes_of_clock, IsClockedOver, IsShiftedOver, IsGoodWire};
+ghost use Rattle.link_cable.specs.Wires.{told_sent, AllCarried, HasRoom, AnswerWaits, HasGiven, OneCarried, bytes_of_clock, ClockOver, ShiftOver, IsGoodWire};
 ghost use Rattle.link_cable.specs.WireCalls.{KeepsWire};
 
 use crate::wire::Wire;
@@ -23,6 +23,7 @@ pub(crate) fn raise(count: &mut u64)
 fn send_all<W: Wire>(wire: &mut W, bytes: &[u8], faults: &mut u64) -> Result<(), Failed>
     requires { W.is_ready wire.old ≡ true }
     ensures sent { OnOk result (W.told wire.new ≡ told_sent (W.told wire.old) bytes.now) }
+    ensures went { AllCarried W.carried wire.old bytes.now result wire.new }
     ensures room { HasRoom (W.told wire.old) (W.is_steady wire.old) (length bytes.now) → IsOk result }
     ensures steady { OnOk result (W.is_steady wire.old ≡ true → W.is_steady wire.new ≡ true) }
     ensures kept { KeepsWire W.Wire wire.old faults.old wire.new faults.new result }
@@ -43,6 +44,7 @@ fn send_all<W: Wire>(wire: &mut W, bytes: &[u8], faults: &mut u64) -> Result<(),
 fn receive_one<W: Wire>(wire: &mut W, faults: &mut u64) -> Result<u8, Failed>
     requires { W.is_ready wire.old ≡ true }
     ensures given { IfOk result (λ answer. HasGiven (W.told wire.old) answer (W.told wire.new)) }
+    ensures came { OneCarried W.carried wire.old result wire.new }
     ensures waits { AnswerWaits (W.told wire.old) (W.is_steady wire.old) → IsOk result }
     ensures steady { OnOk result (W.is_steady wire.old ≡ true → W.is_steady wire.new ≡ true) }
     ensures kept { KeepsWire W.Wire wire.old faults.old wire.new faults.new result }
@@ -84,7 +86,7 @@ pub(crate) fn clock_wire<W: Wire>(
     faults: &mut u64,
 ) -> Result<bool, Failed>
     requires { W.is_ready wire.old ≡ true }
-    ensures clocked { IfOk result (λ tdo. IsClockedOver (W.told wire.old) tms tdi tdo (W.told wire.new)) }
+    ensures clocked { ClockOver W.told W.carried wire.old tms tdi result wire.new }
     ensures good { IsGoodWire (W.told wire.old) (W.is_steady wire.old) →
         IsOk result × IsGoodWire (W.told wire.new) (W.is_steady wire.new) }
     ensures kept { KeepsWire W.Wire wire.old faults.old wire.new faults.new result }
@@ -122,7 +124,7 @@ pub(crate) fn shift_wire<W: Wire>(
 ) -> Result<u64, Failed>
     requires ready { W.is_ready wire.old ≡ true }
     requires most { n ≤ 64 }
-    ensures shifted { IfOk result (λ tdo. IsShiftedOver (W.told wire.old) (block_inputs tdi n last) tdo (W.told wire.new)) }
+    ensures shifted { ShiftOver W.told W.carried wire.old (block_inputs tdi n last) result wire.new }
     ensures small { IfOk result (λ tdo. tdo < 2 ^ n) }
     ensures good { IsGoodWire (W.told wire.old) (W.is_steady wire.old) →
         IsOk result × IsGoodWire (W.told wire.new) (W.is_steady wire.new) }

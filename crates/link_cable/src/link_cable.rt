@@ -1,6 +1,5 @@
 //! A cable over a wire to a link.
-ghost use Rattle.std.specs.Prelude.{◌≡◌, ◌≤◌, true, refl};
-ghost use Rattle.std.proofs.Common.{◌∙◌};
+ghost use Rattle.std.specs.Prelude.{◌≡◌, ◌≤◌, true};
 ghost use Rattle.dev_card.specs.Blocks.{block_inputs};
 ghost use Rattle.scan_paths.specs.Cables.{whole, Waits, Tunes, ClockAnswer, BlockAnswer, SignalAnswer};
 ghost use Rattle.link_cable.specs.LinkCables.{through_sound};
@@ -15,7 +14,8 @@ use tool_io::Failed;
 /// A clock sends the digit of its levels with TCK low, an `R`, and the digit with TCK high, and receives one answer. A
 /// block is as many clocks; a wait and a frequency send nothing. It tells the board that the wire tells, while the
 /// session is open, no answer waits and no call has failed. Its count is the wire's and one of its own, which rises if a
-/// send took no byte, a receive gave no answer, or an answer is no digit of a bit. It takes no memory.
+/// send took no byte, a receive gave no answer, or an answer is no digit of a bit; it rises with nothing else. It takes no
+/// memory.
 #[derive(Drop)]
 pub struct LinkCable<'a, W> {
     wire: &'a mut W,
@@ -42,11 +42,12 @@ impl<'a, W: Wire> LinkCable<'a, W> {
 }
 
 impl<W: Wire> Cable for LinkCable<'_, W> {
-    ghost use Rattle.link_cable.specs.LinkCables.{wire_of, cable_board, cable_count, IsCountLast, cable_breakage, no_faults, IsNever, KeepsLinkCable, leads, GoesWell};
+    ghost use Rattle.link_cable.specs.LinkCables.{wire_of, cable_board, cable_count, IsCountLast, cable_breakage, no_faults, IsNever, KeepsLinkCable, LeadsOver, GoesWell};
+    ghost use Rattle.link_cable.specs.CableLaws.{nothing_leads, both_lead};
 
     ghost board = { cable_board W.told };
 
-    ghost made = { leads };
+    ghost made = { LeadsOver W.Wire };
 
     ghost line_faults = { cable_count W.faults };
 
@@ -62,9 +63,9 @@ impl<W: Wire> Cable for LinkCable<'_, W> {
     /// all this holds again afterwards.
     fn clock(&mut self, tms: bool, tdi: bool) -> Result<bool, Failed>
         requires { cable_breakage W.is_ready self.old ≡ whole }
-        ensures clocked { ClockAnswer (cable_board W.told) leads self.old self.new tms tdi result }
+        ensures clocked { ClockAnswer (cable_board W.told) (LeadsOver W.Wire) self.old self.new tms tdi result }
         ensures kept { KeepsLinkCable W.Wire self.old self.new result }
-        ensures well { GoesWell W.told W.is_steady self.old self.new result }
+        ensures well { GoesWell W.Wire self.old self.new result }
     {
         self.is_broken = true;
         let tdo = clock_wire(self.wire, tms, tdi, &mut self.faults)?;
@@ -77,9 +78,9 @@ impl<W: Wire> Cable for LinkCable<'_, W> {
         requires whole { cable_breakage W.is_ready self.old ≡ whole }
         requires some { 1 ≤ n }
         requires most { n ≤ 64 }
-        ensures shifted { BlockAnswer (cable_board W.told) leads self.old self.new (block_inputs tdi n last) result }
+        ensures shifted { BlockAnswer (cable_board W.told) (LeadsOver W.Wire) self.old self.new (block_inputs tdi n last) result }
         ensures kept { KeepsLinkCable W.Wire self.old self.new result }
-        ensures well { GoesWell W.told W.is_steady self.old self.new result }
+        ensures well { GoesWell W.Wire self.old self.new result }
     {
         self.is_broken = true;
         let tdo = shift_wire(self.wire, tdi, n, last, &mut self.faults)?;
@@ -90,28 +91,28 @@ impl<W: Wire> Cable for LinkCable<'_, W> {
     /// A wait sends nothing.
     fn usec(&mut self, n: u32) -> Result<(), Failed>
         requires { cable_breakage W.is_ready self.old ≡ whole }
-        ensures signalled { SignalAnswer (cable_board W.told) leads self.old self.new (Waits n) result }
+        ensures signalled { SignalAnswer (cable_board W.told) (LeadsOver W.Wire) self.old self.new (Waits n) result }
         ensures kept { KeepsLinkCable W.Wire self.old self.new result }
-        ensures well { GoesWell W.told W.is_steady self.old self.new result }
+        ensures well { GoesWell W.Wire self.old self.new result }
     {
-        let _n = n;
+        let _usec = n;
         Ok(())
     }
 
     /// A frequency sends nothing.
     fn hertz(&mut self, n: u32) -> Result<(), Failed>
         requires { cable_breakage W.is_ready self.old ≡ whole }
-        ensures signalled { SignalAnswer (cable_board W.told) leads self.old self.new (Tunes n) result }
+        ensures signalled { SignalAnswer (cable_board W.told) (LeadsOver W.Wire) self.old self.new (Tunes n) result }
         ensures kept { KeepsLinkCable W.Wire self.old self.new result }
-        ensures well { GoesWell W.told W.is_steady self.old self.new result }
+        ensures well { GoesWell W.Wire self.old self.new result }
     {
-        let _n = n;
+        let _hertz = n;
         Ok(())
     }
 
     ghost sound = { λ c cs told. through_sound c.is_broken (W.told (wire_of c)) (λ s e. W.sound (wire_of c) s e) cs told };
 
-    ghost none_made = { λ c. refl };
+    ghost none_made = { nothing_leads W.told W.carried W.is_steady W.faults W.is_last W.none_carried };
 
-    ghost both_made = { λ a b c front back p q. q ∙ p };
+    ghost both_made = { both_lead W.told W.carried W.is_steady W.faults W.is_last W.both_carried };
 }

@@ -1,8 +1,7 @@
 //! A wire in memory.
 ghost use Rattle.std.specs.Prelude.{◌≡◌, ◌<◌, [], true, length, IsTrue, IsOk, IfOk, OnOk, map};
-ghost use Rattle.tool_io.specs.Causes.{HasCause};
 ghost use Rattle.chain_sim.specs.Places.{is_chain};
-ghost use Rattle.link_cable.specs.Wires.{SendAnswer, HasReceived, KeepsLink, HasRoom, IsGoodWire};
+ghost use Rattle.link_cable.specs.Wires.{SendAnswer, SendCarries, HasReceived, ReceiveCarries, KeepsLink, HasRoom, IsWireKept, IsGoodWire};
 ghost use Rattle.link_cable.specs.MemWires.{over_sound, over_some};
 
 use crate::calls::raise;
@@ -58,9 +57,12 @@ impl<'a, D: Device> MemWireOf<'a, D> {
 }
 
 impl<D: Device> Wire for MemWireOf<'_, D> {
-    ghost use Rattle.link_cable.specs.MemWires.{mem_told, mem_steady, mem_ready, mem_faults, IsMemLast, SendsExactly, GivesExactly};
+    ghost use Rattle.link_cable.specs.MemWires.{mem_told, MemCarries, mem_steady, mem_ready, mem_faults, IsMemLast, SendsExactly, GivesExactly};
+    ghost use Rattle.link_cable.specs.WireLaws.{none_told, both_told};
 
     ghost told = { mem_told D.fitted };
+
+    ghost carried = { MemCarries D.fitted };
 
     ghost is_steady = { mem_steady };
 
@@ -73,10 +75,10 @@ impl<D: Device> Wire for MemWireOf<'_, D> {
     fn send(&mut self, bytes: &[u8]) -> Result<u32, Failed>
         requires { mem_ready D.fitted self.old ≡ true }
         ensures sent { SendAnswer (mem_told D.fitted self.old) bytes.now result (mem_told D.fitted self.new) }
+        ensures went { SendCarries (MemCarries D.fitted) self.old bytes.now result self.new }
         ensures room { HasRoom (mem_told D.fitted self.old) (mem_steady self.old) (length bytes.now) → IsOk result }
         ensures steady { OnOk result (mem_steady self.old ≡ true → mem_steady self.new ≡ true) }
-        ensures ready { mem_ready D.fitted self.new ≡ true }
-        ensures cause { HasCause mem_faults IsMemLast self.old self.new result }
+        ensures kept { IsWireKept (mem_ready D.fitted) mem_faults IsMemLast self.old self.new result }
         ensures exact { SendsExactly self.old bytes.now result self.new }
     {
         self.number = self.number.saturating_add(1);
@@ -99,11 +101,11 @@ impl<D: Device> Wire for MemWireOf<'_, D> {
         ensures length { length into.new ≡ length into.old }
         ensures received { IfOk result (λ n.
             HasReceived (mem_told D.fitted self.old) n into.new (mem_told D.fitted self.new)) }
+        ensures came { ReceiveCarries (MemCarries D.fitted) self.old into.new result self.new }
         ensures link { KeepsLink (mem_told D.fitted self.old) (mem_told D.fitted self.new) }
         ensures never { mem_steady self.old ≡ true → IsOk result }
         ensures steady { OnOk result (mem_steady self.old ≡ true → mem_steady self.new ≡ true) }
-        ensures ready { mem_ready D.fitted self.new ≡ true }
-        ensures cause { HasCause mem_faults IsMemLast self.old self.new result }
+        ensures kept { IsWireKept (mem_ready D.fitted) mem_faults IsMemLast self.old self.new result }
         ensures exact { GivesExactly self.old (length into.old) result self.new }
     {
         self.number = self.number.saturating_add(1);
@@ -118,4 +120,9 @@ impl<D: Device> Wire for MemWireOf<'_, D> {
     ghost sound = { λ w s told. over_sound (map D.fitted w.rack.now.items) w.places.now w.link w.waiting s told };
 
     ghost some = { λ w s ready told. over_some (map D.fitted w.rack.now.items) w.places.now w.link w.waiting s ready told };
+
+    ghost none_carried = { λ w. none_told (mem_told D.fitted w) };
+
+    ghost both_carried = { λ a b c bytes more answers others first then. both_told (mem_told D.fitted a)
+        (mem_told D.fitted b) (mem_told D.fitted c) bytes more answers others first then };
 }

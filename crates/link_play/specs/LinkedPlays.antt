@@ -18,8 +18,9 @@ use Rattle.written_cable.specs.OnPaper.{lines_paper}
 use Rattle.written_cable.specs.Papers.{Shown, Puts, shown_of}
 use Rattle.written_cable.specs.Ports.{KeepsParts}
 use Rattle.link_cable.specs.declared.link_cable.LinkCable.{LinkCable}
-use Rattle.link_cable.specs.Wires.{WireState, IsGoodWire}
-use Rattle.link_cable.specs.LinkCables.{wire_of}
+use Rattle.link_cable.specs.declared.wire.Wire.{Ghosts as WireOf}
+use Rattle.link_cable.specs.Wires.{WireState}
+use Rattle.link_cable.specs.LinkCables.{IsGoodCable, IsCountLast}
 
 -- this is the ending of a run, and the whole text of its events was put
 pub record HasRunOf {O : Type 0} (shown : O → Shown) (pins : Bool) (run : Run) (out : O) (ending : Ending) (new_out : O) : Type 0 where
@@ -40,7 +41,8 @@ pub record IsWholePlay {C K : Type 0} (cable : CableOf C) (sink : SinkOf K) (pin
   pub bounded : now ≤ steps + (n + 1) * length code.instrs
   pub kept : KeepsParts cable (lines_paper sink) old out new new_out result
 
--- a cable over a good wire to a link with this board
-pub record IsGoodOver {W : Type 0} (told : W → Option WireState) (is_steady : W → Bool) (board : List Card) (cable : LinkCable W) : Type 0 where
-  pub good : IsGoodWire (told (wire_of cable)) (is_steady (wire_of cable))
+-- a cable over a good wire to a link with this board, whose count does not stand at its last value
+pub record IsGoodOver {W : Type 0} (wire : WireOf W) (board : List Card) (cable : LinkCable W) : Type 0 where
+  pub good : IsGoodCable wire.told wire.is_steady cable
   pub board_is : good.state.at.board ≡ board
+  pub counts : IsCountLast wire.is_last cable → ⊥

@@ -5,7 +5,7 @@ ghost use Rattle.dev_card.specs.Card.{Card};
 ghost use Rattle.dev_card.specs.FarEnds.{Told};
 ghost use Rattle.scan_paths.specs.Scans.{lengths_of};
 ghost use Rattle.written_cable.specs.Papers.{shown_of};
-ghost use Rattle.stapl_player.specs.Plays.{whole_play, CanPlay, CableHasRisen};
+ghost use Rattle.stapl_player.specs.Plays.{whole_play, CanPlay};
 ghost use Rattle.link_play.specs.LinkedPlays.{HasRunOf, GoesAsTold, IsWholePlay, IsGoodOver};
 
 use base::Steps;
@@ -49,7 +49,8 @@ pub fn play_told<C: Cable, K: Sink, L: Ledger>(
 }
 
 /// The play of `stapl_player` over a wire to a link, with its conditions and its answers. Over a wire that tells and is
-/// steady, with an open session and no waiting answer, it is the play on the chain at the other end.
+/// steady, with an open session and no waiting answer, it is the play on the chain at the other end. Over any wire exactly
+/// the bytes of the play's signals are carried, and the answers to them.
 ///
 /// `CableFault` comes only if the count of the wire or that of the cable rose, or stands at its last value, and
 /// `WriteFault` only if that of the sink did. It takes no memory.
@@ -67,9 +68,8 @@ pub fn play_linked<W: Wire, K: Sink, L: Ledger>(
     requires { CanPlay ⟦<LinkCable<'static, W> as Cable>⟧ code.now chosen.now machine.old cable.old out.old }
 
     // Over a good wire to a link with this board, ending and text are those of the run on it, as those of a play over a
-    // chain with this board are, if neither count rises.
-    ensures as_chain { (cs : List Card) → IsGoodOver W.told W.is_steady cs cable.old →
-        (CableHasRisen ⟦<LinkCable<'static, W> as Cable>⟧ cable.old cable.new → ⊥) →
+    // chain with this board are, if the count of the sink does not rise.
+    ensures as_chain { (cs : List Card) → IsGoodOver W.Wire cs cable.old →
         (SinkHasRisen K.Sink out.old out.new → ⊥) → IsOk result × IfOk result (λ ending. HasRunOf (shown_of K.written)
         pins (whole_play code.now chosen.now turns (lengths_of base.now) (Told cs)) out.old ending out.new) }
 

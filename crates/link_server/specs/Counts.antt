@@ -11,8 +11,3 @@ pub record CountStill (before now : ℕ) (last_before last_now : Type 0) : Type 
 pub record CountsExactly {T E : Type 0} (before now : ℕ) (last_before last_now : Type 0) (result : Result T E) : Type 0 where
   pub cause : CountCause before now last_before last_now result
   pub calm : OnOk result (CountStill before now last_before last_now)
-
--- The same of a call on an object with one count.
-abbrev pub HasExactCause : {K T E : Type 0} → (K → ℕ) → (K → Type 0) → K → K → Result T E → Type 0
-HasExactCause faults is_last before now result =
-    CountsExactly (faults before) (faults now) (is_last before) (is_last now) result
