@@ -95,6 +95,7 @@ impl Shelf for MemShelf {
         ensures keeps { Some (files_of self.new) ≡ Some (files_of self.old) }
         ensures picks { OnOk result (IsPicked self.new name.now) }
         ensures start { OnOk result (file_of (files_of self.old) name.now ≡ Some (left_of self.new)) }
+        ensures none { OnErr result ((name : List ℕ) → IsPicked self.new name → ⊥) }
         ensures cause { HasCauseAt count_at IsCountLastAt name.now self.old self.new result }
         ensures exact { Picks self.old name.now result self.new }
     {
@@ -117,6 +118,7 @@ impl Shelf for MemShelf {
         ensures same { (name : List ℕ) → IsPicked self.old name → IsPicked self.new name }
         ensures bound { IfOk result (λ n. n ≤ length into.new) }
         ensures bytes { IfOk result (λ n. Gives (left_of self.old) (left_of self.new) n into.new) }
+        ensures lost { OnErr result (left_of self.new ≡ left_of self.old) }
         ensures cause { (name : List ℕ) → IsPicked self.old name → HasCauseAt count_at IsCountLastAt name self.old self.new result }
         ensures exact { (place : ℕ) → self.old.picked ≡ Some place → ReadsAt place self.old (length into.old) result self.new }
     {

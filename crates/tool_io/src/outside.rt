@@ -38,11 +38,13 @@ pub trait Shelf {
         ensures keeps { told self.new ≡ told self.old }
         ensures picks { OnOk result (reads self.new name.now) }
         ensures start { OnOk result (IfSome (told self.old) (λ files. file_of files name.now ≡ Some (left self.new))) }
+        ensures none { OnErr result ((name : List ℕ) → reads self.new name → ⊥) }
         ensures cause { HasCauseAt faults is_last name.now self.old self.new result };
 
     /// Fills a front of the slice with the next bytes of the picked file, and answers how many those are. 0 is the end.
     ///
-    /// A file has been picked, and the slice has a place. After `Failed` nothing is promised of what is left.
+    /// A file has been picked, and the slice has a place. `Failed` if no bytes could be had; then none is lost: what no
+    /// read has given yet stays as it was.
     fn read(&mut self, into: &mut [u8]) -> Result<u32, Failed>
         requires picked { (name : List ℕ) × reads self.old name }
         requires room { 0 < length into.old }
@@ -50,6 +52,7 @@ pub trait Shelf {
         ensures same { (name : List ℕ) → reads self.old name → reads self.new name }
         ensures bound { IfOk result (λ n. n ≤ length into.new) }
         ensures bytes { IfOk result (λ n. IfSome (told self.old) (λ _. Gives (left self.old) (left self.new) n into.new)) }
+        ensures lost { OnErr result (left self.new ≡ left self.old) }
         ensures cause { (name : List ℕ) → reads self.old name → HasCauseAt faults is_last name self.old self.new result };
 }
 
