@@ -2,6 +2,8 @@
 use Rattle.std.proofs.Common.{◌≡◌, ◌∙◌, ◌⊎◌, inl, inr, ℕ, List, [], map, Option, None, Some, Result, Ok, Err, refl, sym, ap, subst}
 use Rattle.std.specs.Prelude.{IsErrAnd, IsSome}
 use Rattle.std.proofs.lemmas.Bool.{false≢true}
+use Rattle.tool_io.specs.Causes.{HasRisenAt}
+use Rattle.tool_io.specs.declared.outside.Shelf.{Ghosts as ShelfOf}
 use Rattle.tool_io.proofs.BytesLemmas.{then_bytes-nothing}
 use Rattle.dev_card.specs.declared.desc.Desc.{Desc}
 use Rattle.dev_card.specs.Sound.{SoundCard}
@@ -140,14 +142,14 @@ module _ {D Kind : Type 0} {kind_of : D → Kind} {fitted : D → Option SoundCa
 
 -- ---- what is answered to a request
 
-module _ {D Kind : Type 0} (kind_of : D → Kind) (fitted : D → Option SoundCard) where
+module _ {D Kind S : Type 0} (kind_of : D → Kind) (fitted : D → Option SoundCard) (shelf : ShelfOf S) (files files_now : S) where
   abbrev pub RequestSays : Option (List (List ℕ × List ℕ)) → FileNames → Option (List ℕ) → Option (List ℕ) → List D → List D → Result LinkStatus NoAnswer → Type 0
   RequestSays told named before after olds news r = OfContents told named (λ contents.
-      Answers kind_of fitted (RequestAnswer contents) (RequestDue contents) (RequestHoldsLeft contents) before after olds news r)
+      Answers kind_of fitted (RequestAnswer contents) (RequestDue shelf files files_now named contents) (RequestHoldsLeft contents) before after olds news r)
 
   -- the board is right
   pub request_of_file : (before after : Option (List ℕ)) (olds news : List D) (told : Option (List (List ℕ × List ℕ))) (named : FileNames) (r : Result LinkStatus NoAnswer)
-      (devices : List Desc) → ReadsBoard told named.board devices → FileSays kind_of fitted devices told named.file before after olds news r →
+      (devices : List Desc) → ReadsBoard told named.board devices → FileSays kind_of fitted devices shelf files_now told named.file before after olds news r →
       RequestSays told named before after olds news r
   request_of_file before after olds news told named r devices reads o =
       of_both told named reads.held reads.read o (λ file a.
@@ -163,8 +165,9 @@ module _ {D Kind : Type 0} (kind_of : D → Kind) (fitted : D → Option SoundCa
   })
 
   -- it could not be read, or there was no memory
-  pub no_board : (before : Option (List ℕ)) (items : List D) (told : Option (List (List ℕ × List ℕ))) (named : FileNames) → RequestSays told named before before items items (Err Read)
-  no_board before items told named = of_any_contents told named (λ contents. record { written = nothing_due before (before_session refl); rack = rack_kept Read refl })
+  pub no_board : (before : Option (List ℕ)) (items : List D) (told : Option (List (List ℕ × List ℕ))) (named : FileNames) → HasRisenAt shelf.faults shelf.is_last named.board files files_now →
+      RequestSays told named before before items items (Err Read)
+  no_board before items told named rose = of_any_contents told named (λ contents. record { written = nothing_due before (before_session rose refl); rack = rack_kept Read refl })
 
   pub no_board_memory : (before : Option (List ℕ)) (items : List D) (told : Option (List (List ℕ × List ℕ))) (named : FileNames) (r : Result LinkStatus NoAnswer) →
       IsErrAnd r (λ e. e ≡ Memory) → RequestSays told named before before items items r
@@ -175,7 +178,7 @@ module _ {D Kind : Type 0} (kind_of : D → Kind) (fitted : D → Option SoundCa
 
   abbrev pub WordsSay : Option (List (List ℕ × List ℕ)) → List (List ℕ) → Option (List ℕ) → Option (List ℕ) → List D → List D → Result LinkStatus NoAnswer → Type 0
   WordsSay told words before after olds news r = OfWords link_key told words (λ contents.
-      Answers kind_of fitted (WordsAnswer words (λ named. contents)) (WordsDue words contents) (WordsHoldLeft words contents) before after olds news r)
+      Answers kind_of fitted (WordsAnswer words (λ named. contents)) (WordsDue shelf files files_now words contents) (WordsHoldLeft words contents) before after olds news r)
 
   pub words_of_request : (before after : Option (List ℕ)) (olds news : List D) (told : Option (List (List ℕ × List ℕ))) {words : List (List ℕ)} (named : FileNames)
       (r : Result LinkStatus NoAnswer) → IsRequest link_key words named → RequestSays told named before after olds news r → WordsSay told words before after olds news r

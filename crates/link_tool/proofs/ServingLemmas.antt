@@ -28,7 +28,7 @@ use Rattle.tool_frame.specs.Frame.{KeepsCount}
 use Rattle.link_tool.specs.declared.status.LinkStatus.{LinkStatus}
 use Rattle.link_tool.specs.declared.status.LinkStatus.TheVariants.{Done, BadByte, TooLong}
 use Rattle.link_tool.specs.declared.session.Session.{Session}
-use Rattle.link_tool.specs.Sessions.{most_bytes, session_bytes, link_to, first_answers, EndsWith, at_end, at_limit}
+use Rattle.link_tool.specs.Sessions.{most_bytes, session_bytes, link_to, first_answers, AllGoOn, EndsWith, at_end, at_limit}
 use Rattle.link_tool.specs.Pieces.{session_at, HasTaken, status_after, PutsOut, IsSession, HasServed}
 use Rattle.link_tool.proofs.EndLemmas.{all_taken, open_end, quit_end, bad_end}
 
@@ -255,8 +255,8 @@ module _ (taken most left room : ℕ) (piece : List ℕ) (is : room ≡ min left
 -- ---- how it stops
 
 -- what a session comes to, of which the answers are put
-abbrev pub Serves : {F K : Type 0} → Option F → List ℕ → List Card → SinkOf K → Lines K → Lines K → Option (List Card) → Result LinkStatus NoAnswer → Type 0
-Serves told first board sink old new cards r = HasServed told first board (λ text. PutsOut sink old text new) (λ text. PutsFront sink old text new) cards r
+abbrev pub Serves : {F K : Type 0} → Option F → List ℕ → List ℕ → List Card → SinkOf K → Lines K → Lines K → Option (List Card) → Result LinkStatus NoAnswer → Type 0
+Serves told first after board sink old new cards r = HasServed told first after board (λ text. PutsOut sink old text new) (λ text. PutsFront sink old text new) cards r
 
 module _ {F K : Type 0} {board : List Card} {told : Option F} {first left : List ℕ} {sink : SinkOf K} {old now : Lines K} {session : Session} {cards : Option (List Card)}
     (s : IsServing board told first left sink old now session cards) (empty : gathered now ≡ []) where
@@ -271,18 +271,29 @@ module _ {F K : Type 0} {board : List Card} {told : Option F} {first left : List
   cut = fronts most_bytes s.so_far left s.within
 
   -- a front was read, and no more can be
-  pub stop_read : {told_cards : Option (List Card)} → Serves told first board sink old now told_cards (Err Read)
-  stop_read = record {
-    bytes = bytes;
-    read = s.read;
-    does = record {
-      count = length s.so_far;
-      wrote = record {
-        puts = puts_same (ap (first_answers board) (sym (ap (take (length s.so_far)) cut ∙ take-append_seam s.so_far rest))) s.puts;
-        empty = empty;
-      };
-    };
-  }
+  pub stop_read : {after : List ℕ} {told_cards : Option (List Card)} → after ≡ left → is_open session.link.state ≡ true → Serves told first after board sink old now told_cards (Err Read)
+  stop_read {after = after} unread open_now =
+      let same : session_bytes s.so_far ≡ s.so_far = all_in most_bytes s.so_far s.within in
+      record {
+        bytes = bytes;
+        read = s.read;
+        does = record {
+          front = s.so_far;
+          read = record {
+            others = left;
+            parts = refl;
+            unread = told_so told;
+            within = s.within;
+            goes_on = subst (λ (xs : List ℕ). AllGoOn xs) same (open_end board s.so_far
+                (ap (λ xs. is_open (link_run (link_to board) xs).end.link.state) same ∙ ap (λ (l : Link). is_open l.state) (sym s.link) ∙ open_now));
+          };
+          wrote = record { puts = s.puts; empty = empty };
+        };
+      }
+    where
+      told_so : {F : Type 0} (told : Option F) → IfSome told (λ files. after ≡ left)
+      told_so None = tt
+      told_so (Some files) = unread
 
   -- a session that is not open is over
   over : is_open session.link.state ≡ false → (link_run (link_to board) (session_bytes bytes)) ≡ link_run (link_to board) s.so_far
@@ -300,7 +311,7 @@ module _ {F K : Type 0} {board : List Card} {told : Option F} {first left : List
       add_none : (n : ℕ) → n + 0 ≡ n
       add_none n = omega arith
 
-  closed_served : (status : LinkStatus) → is_open session.link.state ≡ false → EndsWith bytes status → Serves told first board sink old now cards (Ok status)
+  closed_served : {after : List ℕ} (status : LinkStatus) → is_open session.link.state ≡ false → EndsWith bytes status → Serves told first after board sink old now cards (Ok status)
   closed_served status closed ends = record {
     bytes = bytes;
     read = s.read;
@@ -311,12 +322,12 @@ module _ {F K : Type 0} {board : List Card} {told : Option F} {first left : List
     };
   }
 
-  stop_quit : session.link.state ≡ states.Quit → Serves told first board sink old now cards (Ok Done)
+  stop_quit : {after : List ℕ} → session.link.state ≡ states.Quit → Serves told first after board sink old now cards (Ok Done)
   stop_quit e =
       let closed : is_open session.link.state ≡ false = ap is_open e in
       closed_served Done closed (quit_end board bytes (ap (λ (r : LinkRun). r.end.link.state) (over closed) ∙ ap (λ (l : Link). l.state) (sym s.link) ∙ e))
 
-  stop_bad : session.link.state ≡ states.Bad → Serves told first board sink old now cards (Ok (BadByte session.taken))
+  stop_bad : {after : List ℕ} → session.link.state ≡ states.Bad → Serves told first after board sink old now cards (Ok (BadByte session.taken))
   stop_bad e =
       let closed : is_open session.link.state ≡ false = ap is_open e in
       let at_taken : (link_run (link_to board) (session_bytes bytes)).taken ≡ session.taken = ap (λ (r : LinkRun). r.taken) (over closed) ∙ sym s.count in
@@ -325,8 +336,8 @@ module _ {F K : Type 0} {board : List Card} {told : Option F} {first left : List
       (bad_end board bytes (ap (λ (r : LinkRun). r.end.link.state) (over closed) ∙ ap (λ (l : Link). l.state) (sym s.link) ∙ e)))
 
   -- what was read is the session, which is open
-  open_served : (all : List ℕ) (status : LinkStatus) → IfSome told (λ files. first ≡ all) → session_bytes all ≡ s.so_far → is_open session.link.state ≡ true →
-      ((list_all_go_on : is_open (link_run (link_to board) (session_bytes all)).end.link.state ≡ true) → EndsWith all status) → Serves told first board sink old now cards (Ok status)
+  open_served : {after : List ℕ} (all : List ℕ) (status : LinkStatus) → IfSome told (λ files. first ≡ all) → session_bytes all ≡ s.so_far → is_open session.link.state ≡ true →
+      ((list_all_go_on : is_open (link_run (link_to board) (session_bytes all)).end.link.state ≡ true) → EndsWith all status) → Serves told first after board sink old now cards (Ok status)
   open_served all status read same open_now ends = record {
     bytes = all;
     read = read;
@@ -337,34 +348,34 @@ module _ {F K : Type 0} {board : List Card} {told : Option F} {first left : List
     };
   }
 
-  stop_long : is_open session.link.state ≡ true → session.taken ≡ most_bytes → 0 < length left → Serves told first board sink old now cards (Ok TooLong)
+  stop_long : {after : List ℕ} → is_open session.link.state ≡ true → session.taken ≡ most_bytes → 0 < length left → Serves told first after board sink old now cards (Ok TooLong)
   stop_long open_now full some =
       let n : session.taken ≡ length s.so_far = open_count s open_now in
       open_served bytes TooLong s.read (full_in most_bytes s.so_far left (sym n ∙ full)) open_now
       (λ e. at_limit (omega (arith, n, full, some, length-append s.so_far left)) (open_end board bytes e))
 
   -- by the status that was told
-  pub stops : (more : Bool) (status : LinkStatus) → (more ≡ true → is_open session.link.state ≡ true → (session.taken ≡ most_bytes) × (0 < length left)) →
-      status_after session.link.state session.taken more ≡ Some status → Serves told first board sink old now cards (Ok status)
-  stops more status long e = by session.link.state refl
+  pub stops : {after : List ℕ} (more : Bool) (status : LinkStatus) → (more ≡ true → is_open session.link.state ≡ true → (session.taken ≡ most_bytes) × (0 < length left)) →
+      status_after session.link.state session.taken more ≡ Some status → Serves told first after board sink old now cards (Ok status)
+  stops {after = after} more status long e = by session.link.state refl
     where
       is : (state : LinkState) → session.link.state ≡ state → status_after state session.taken more ≡ Some status
       is state same = ap (λ t. status_after t session.taken more) (sym same) ∙ e
 
-      by_more : (m : Bool) → more ≡ m → session.link.state ≡ states.Open → cond m (Some TooLong) None ≡ Some status → Serves told first board sink old now cards (Ok status)
+      by_more : (m : Bool) → more ≡ m → session.link.state ≡ states.Open → cond m (Some TooLong) None ≡ Some status → Serves told first after board sink old now cards (Ok status)
       by_more true m same f =
           let fact = long m (ap is_open same) in
-          subst (λ (t : LinkStatus). Serves told first board sink old now cards (Ok t)) (same_Some TooLong status f) (stop_long (ap is_open same) fact.0 fact.1)
+          subst (λ (t : LinkStatus). Serves told first after board sink old now cards (Ok t)) (same_Some TooLong status f) (stop_long (ap is_open same) fact.0 fact.1)
       by_more false m same f = absurd (none-some status f)
 
-      by : (state : LinkState) → session.link.state ≡ state → Serves told first board sink old now cards (Ok status)
-      by states.Quit same = subst (λ (t : LinkStatus). Serves told first board sink old now cards (Ok t)) (same_Some Done status (is states.Quit same)) (stop_quit same)
-      by states.Bad same = subst (λ (t : LinkStatus). Serves told first board sink old now cards (Ok t)) (same_Some (BadByte session.taken) status (is states.Bad same)) (stop_bad same)
+      by : (state : LinkState) → session.link.state ≡ state → Serves told first after board sink old now cards (Ok status)
+      by states.Quit same = subst (λ (t : LinkStatus). Serves told first after board sink old now cards (Ok t)) (same_Some Done status (is states.Quit same)) (stop_quit same)
+      by states.Bad same = subst (λ (t : LinkStatus). Serves told first after board sink old now cards (Ok t)) (same_Some (BadByte session.taken) status (is states.Bad same)) (stop_bad same)
       by states.Open same = by_more more refl same (is states.Open same)
 
 -- the file was read to its end
-pub stop_end : {F K : Type 0} {board : List Card} {told : Option F} {first : List ℕ} {sink : SinkOf K} {old now : Lines K} {session : Session} {cards : Option (List Card)} →
-    IsServing board told first [] sink old now session cards → gathered now ≡ [] → is_open session.link.state ≡ true → Serves told first board sink old now cards (Ok Done)
+pub stop_end : {F K : Type 0} {board : List Card} {told : Option F} {first after : List ℕ} {sink : SinkOf K} {old now : Lines K} {session : Session} {cards : Option (List Card)} →
+    IsServing board told first [] sink old now session cards → gathered now ≡ [] → is_open session.link.state ≡ true → Serves told first after board sink old now cards (Ok Done)
 stop_end {board = board} {told = told} {first = first} s empty open_now =
     let same : session_bytes s.so_far ≡ s.so_far = all_in most_bytes s.so_far s.within in
     open_served s empty s.so_far Done (by told s.read) same open_now (λ e. at_end s.within (open_end board s.so_far e))
@@ -374,11 +385,11 @@ stop_end {board = board} {told = told} {first = first} s empty open_now =
     by (Some files) e = e ∙ append-nil s.so_far
 
 -- a piece was fed, and its answers could not be written
-pub stop_write : {F K T E : Type 0} {board : List Card} {told : Option F} {first front : List ℕ} {sink : SinkOf K} {old now new_lines : Lines K} {session new : Session}
+pub stop_write : {F K T E : Type 0} {board : List Card} {told : Option F} {first front after : List ℕ} {sink : SinkOf K} {old now new_lines : Lines K} {session new : Session}
     {cards new_cards told_cards : Option (List Card)} (more : List ℕ) (r : Result T E) (x : E) → r ≡ Err x →
     is_open session.link.state ≡ true → session.taken + length front ≤ most_bytes →
     ((cs : List Card) → cards ≡ Some cs → HasTaken sink session cs front new new_cards now new_lines r) →
-    IsServing board told first (front ++ more) sink old now session cards → Serves told first board sink old new_lines told_cards (Err Write)
+    IsServing board told first (front ++ more) sink old now session cards → Serves told first after board sink old new_lines told_cards (Err Write)
 stop_write {T = T} {E = E} {board = board} {front = front} {sink = sink} {now = now} {new_lines = new_lines} {session = session} {new = new} {new_cards = new_cards}
     more r x err open_now few f s =
     let at = (link_run (link_to board) s.so_far).end in
@@ -400,37 +411,37 @@ stop_write {T = T} {E = E} {board = board} {front = front} {sink = sink} {now = 
     }
 
 -- a write fault at the exit of a `?`
-pub failed_as : {F : Type 0} {told : Option F} {left : List ℕ} {board : List Card} {written front : List ℕ → Type 0} {now : Option (List Card)}
-    (r : Result LinkStatus NoAnswer) → IsErrAnd r (λ e. e ≡ Write) → HasServed told left board written front now (Err Write) → HasServed told left board written front now r
+pub failed_as : {F : Type 0} {told : Option F} {left after : List ℕ} {board : List Card} {written front : List ℕ → Type 0} {now : Option (List Card)}
+    (r : Result LinkStatus NoAnswer) → IsErrAnd r (λ e. e ≡ Write) → HasServed told left after board written front now (Err Write) → HasServed told left after board written front now r
 failed_as (Ok status) is h = absurd is
 failed_as (Err e) is h = rw is h
 
 -- The lines are gone, and what they wrote is what their sink has taken.
-module _ {F K : Type 0} {told : Option F} {left : List ℕ} {board : List Card} {sink : SinkOf K} {old new : Lines K} {now : Option (List Card)} where
+module _ {F K : Type 0} {told : Option F} {left rest : List ℕ} {board : List Card} {sink : SinkOf K} {old new : Lines K} {now : Option (List Card)} where
   pub from_lines : {before after : Option (List ℕ)} (r : Result LinkStatus NoAnswer) → gathered old ≡ [] → before ≡ taken sink old → after ≡ taken sink new →
-      Serves told left board sink old new now r → HasServed told left board (λ text. after ≡ then_bytes before text) (λ text. MovesFront before text after) now r
+      Serves told left rest board sink old new now r → HasServed told left rest board (λ text. after ≡ then_bytes before text) (λ text. MovesFront before text after) now r
   from_lines {before = before} {after = after} r empty e f h = record { bytes = h.bytes; read = h.read; does = by r h.does }
     where
-      by : (r : Result LinkStatus NoAnswer) → IsSession board h.bytes (λ text. PutsOut sink old text new) (λ text. PutsFront sink old text new) now r →
-          IsSession board h.bytes (λ text. after ≡ then_bytes before text) (λ text. MovesFront before text after) now r
+      by : (r : Result LinkStatus NoAnswer) → IsSession told rest board h.bytes (λ text. PutsOut sink old text new) (λ text. PutsFront sink old text new) now r →
+          IsSession told rest board h.bytes (λ text. after ≡ then_bytes before text) (λ text. MovesFront before text after) now r
       by (Ok status) d = record { wrote = rw (e, f) (all_written empty d.wrote.puts d.wrote.empty); leaves = d.leaves; ends = d.ends }
-      by (Err Read) d = record { count = d.count; wrote = rw (e, f) (all_written empty d.wrote.puts d.wrote.empty) }
+      by (Err Read) d = record { front = d.front; read = d.read; wrote = rw (e, f) (all_written empty d.wrote.puts d.wrote.empty) }
       by (Err Write) d = rw (e, f) (front_written empty d)
       by (Err Memory) d = absurd d
 
   -- they stood over that sink to the end
-  pub served_over : (r : Result LinkStatus NoAnswer) → Serves told left board sink old new now r → IsOverSame old new
+  pub served_over : (r : Result LinkStatus NoAnswer) → Serves told left rest board sink old new now r → IsOverSame old new
   served_over (Ok status) h = h.does.wrote.puts.same_sink
   served_over (Err Read) h = h.does.wrote.puts.same_sink
   served_over (Err Write) h = h.does.same_sink
   served_over (Err Memory) h = absurd h.does
 
   -- what its count has kept
-  pub served_count : (before after : K) (r : Result LinkStatus NoAnswer) → before ≡ sink_of old → after ≡ sink_of new → Serves told left board sink old new now r →
+  pub served_count : (before after : K) (r : Result LinkStatus NoAnswer) → before ≡ sink_of old → after ≡ sink_of new → Serves told left rest board sink old new now r →
       KeepsCount sink before after r
   served_count before after r e f h = rw (e, f) (by r h.does)
     where
-      by : (r : Result LinkStatus NoAnswer) → IsSession board h.bytes (λ text. PutsOut sink old text new) (λ text. PutsFront sink old text new) now r →
+      by : (r : Result LinkStatus NoAnswer) → IsSession told rest board h.bytes (λ text. PutsOut sink old text new) (λ text. PutsFront sink old text new) now r →
           KeepsCount sink (sink_of old) (sink_of new) r
       by (Ok status) d = record { later = d.wrote.puts.kept; write = λ is. absurd cc }
       by (Err Read) d = record { later = d.wrote.puts.kept; write = λ is. absurd cc }

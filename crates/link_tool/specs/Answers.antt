@@ -1,7 +1,9 @@
 -- What the tool answers: a text and a status, by the words and the contents of the files that they name. It is defined
 -- where the files are held that are read before the answer is found: the board first, and the bytes of the link after a
 -- board that is right. Words and boards that are refused are answered by the status alone.
-use Rattle.std.specs.Prelude.{◌≡◌, ℕ, List, [], Option, Some, map, take, codes, IsSomeAnd}
+use Rattle.std.specs.Prelude.{◌≡◌, ℕ, List, [], Option, Some, map, codes, IsSomeAnd}
+use Rattle.tool_io.specs.Causes.{HasRisenAt}
+use Rattle.tool_io.specs.declared.outside.Shelf.{Ghosts as ShelfOf}
 use Rattle.dev_card.specs.declared.desc.Desc.{Desc}
 use Rattle.dev_card.specs.Card.{Card, fresh}
 use Rattle.board_text.specs.declared.reason.BoardReason.{BoardReason}
@@ -10,7 +12,7 @@ use Rattle.named_files.specs.Words.{FileNames, IsRequest, IsUsage}
 use Rattle.named_files.specs.Contents.{Contents, contents_in}
 use Rattle.link_tool.specs.declared.status.LinkStatus.{LinkStatus}
 use Rattle.link_tool.specs.declared.status.LinkStatus.TheVariants.{BoardRefused, Usage}
-use Rattle.link_tool.specs.Sessions.{session_bytes, first_answers, session_answers, EndsWith}
+use Rattle.link_tool.specs.Sessions.{first_answers, session_answers, EndsWith, IsReadUpTo}
 
 -- the key of the word that names the bytes of the link
 abbrev pub link_key : List ℕ
@@ -49,21 +51,26 @@ pub data WordsAnswer (words : List (List ℕ)) (contents_of : FileNames → Cont
 abbrev pub Answer : List (List ℕ) → List (List ℕ × List ℕ) → (List ℕ → LinkStatus → Type 0)
 Answer words files = WordsAnswer words (contents_in files)
 
--- What is written if the bytes of a link could not be read to the end of the session: the answers to those in front
--- that were read, and nothing if none was.
-pub data FileDue (devices : List Desc) (held : Option (List ℕ)) (text : List ℕ) : Type 0 where
-  nothing : text ≡ [] → FileDue devices held text
-  up_to : (bytes : List ℕ) (n : ℕ) → held ≡ Some bytes →
-      text ≡ first_answers (new_board devices) (take n (session_bytes bytes)) → FileDue devices held text
+-- What is written if the bytes of a link could not be read to the end of the session: the answers to exactly those
+-- that were read. Nothing is if the file could not be opened, and then the store reads no file.
+pub data FileDue {S : Type 0} (shelf : ShelfOf S) (after : S) (devices : List Desc) (held : Option (List ℕ))
+    (text : List ℕ) : Type 0 where
+  not_opened : ((name : List ℕ) → shelf.reads after name → ⊥) → text ≡ [] → FileDue shelf after devices held text
+  up_to : (bytes front : List ℕ) → held ≡ Some bytes →
+      IsReadUpTo (shelf.told after) (shelf.left after) bytes front →
+      text ≡ first_answers (new_board devices) front → FileDue shelf after devices held text
 
--- the same of a request, whose board may have been what could not be read
-pub data RequestDue (contents : Contents) (text : List ℕ) : Type 0 where
-  before_session : text ≡ [] → RequestDue contents text
+-- The same of a request. Nothing is written if its board could not be read, and then its count has risen.
+pub data RequestDue {S : Type 0} (shelf : ShelfOf S) (before after : S) (named : FileNames) (contents : Contents)
+    (text : List ℕ) : Type 0 where
+  before_session : HasRisenAt shelf.faults shelf.is_last named.board before after → text ≡ [] →
+      RequestDue shelf before after named contents text
   in_session : (devices : List Desc) → HasBoard contents.board devices →
-      FileDue devices contents.file text → RequestDue contents text
+      FileDue shelf after devices contents.file text → RequestDue shelf before after named contents text
 
 -- the same of words
-pub record WordsDue (words : List (List ℕ)) (contents : Contents) (text : List ℕ) : Type 0 where
+pub record WordsDue {S : Type 0} (shelf : ShelfOf S) (before after : S) (words : List (List ℕ)) (contents : Contents)
+    (text : List ℕ) : Type 0 where
   pub named : FileNames
   pub asked : IsRequest link_key words named
-  pub due : RequestDue contents text
+  pub due : RequestDue shelf before after named contents text

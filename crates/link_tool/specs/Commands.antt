@@ -43,7 +43,7 @@ pub record Serves {S K D Kind : Type 0} (shelf : ShelfOf S) (sink : SinkOf K) (k
       Answered words contents (sink.written out) (sink.written new_out) status (map fitted new_rack))
   pub read : status ≡ ReadFault → HasReadCause shelf (IsReachedBy link_key (shelf.told files) words) files new_files
   pub due : status ≡ ReadFault → OfWords link_key (shelf.told files) words (λ contents.
-      WroteDue (WordsDue words contents) (sink.written out) (sink.written new_out))
+      WroteDue (WordsDue shelf files new_files words contents) (sink.written out) (sink.written new_out))
   pub write : status ≡ WriteFault → HasRisen sink.faults sink.is_last out new_out
   pub front : status ≡ WriteFault → OfWords link_key (shelf.told files) words (λ contents.
       WroteFront (WordsAnswer words (λ named. contents)) (sink.written out) (sink.written new_out))

@@ -1,6 +1,6 @@
 -- The pieces of a session, as they are read: what is taken of each, and what a whole session comes to. The rules are
 -- this tool's own.
-use Rattle.std.specs.Prelude.{◌≡◌, ◌+◌, Bool, ℕ, List, [], take, Option, None, Some, Result, Ok, Err, IfSome, if◌then◌else◌}
+use Rattle.std.specs.Prelude.{◌≡◌, ◌+◌, Bool, ℕ, List, [], Option, None, Some, Result, Ok, Err, IfSome, if◌then◌else◌}
 use Rattle.tool_io.specs.declared.lines.Lines.{Lines}
 use Rattle.tool_io.specs.declared.outside.Sink.{Ghosts as SinkOf}
 use Rattle.tool_io.specs.Lines.{gathered, Puts, HasPut}
@@ -13,7 +13,7 @@ use Rattle.tool_frame.specs.declared.no_answer.NoAnswer.TheVariants.{Read, Write
 use Rattle.link_tool.specs.declared.status.LinkStatus.{LinkStatus}
 use Rattle.link_tool.specs.declared.status.LinkStatus.TheVariants.{Done, BadByte, TooLong}
 use Rattle.link_tool.specs.declared.session.Session.{Session}
-use Rattle.link_tool.specs.Sessions.{session_bytes, first_answers, session_answers, board_left, EndsWith}
+use Rattle.link_tool.specs.Sessions.{first_answers, session_answers, board_left, EndsWith, IsReadUpTo}
 
 -- the link of a session, and a board
 abbrev pub session_at : Session → List Card → LinkAt
@@ -47,23 +47,26 @@ pub record IsServed (board : List Card) (bytes : List ℕ) (written : List ℕ �
   pub leaves : now ≡ Some (board_left board bytes)
   pub ends : EndsWith bytes status
 
--- The answers to the first bytes of a session are written.
-pub record IsServedUpTo (board : List Card) (bytes : List ℕ) (written : List ℕ → Type 0) : Type 0 where
-  pub count : ℕ
-  pub wrote : written (first_answers board (take count (session_bytes bytes)))
+-- The answers to the bytes of a session that were read are written.
+pub record IsServedUpTo {F : Type 0} (told : Option F) (left : List ℕ) (board : List Card) (bytes : List ℕ)
+    (written : List ℕ → Type 0) : Type 0 where
+  pub front : List ℕ
+  pub read : IsReadUpTo told left bytes front
+  pub wrote : written (first_answers board front)
 
--- What a session comes to, by the result: its answers are written; those to its first bytes at a read fault; and a
--- front of its answers at a write fault. The two words say of a text that it is written, and that a front of it is.
-abbrev pub IsSession : List Card → List ℕ → (List ℕ → Type 0) → (List ℕ → Type 0) → Option (List Card) →
-    Result LinkStatus NoAnswer → Type 0
-IsSession board bytes written front now (Ok status) = IsServed board bytes written now status
-IsSession board bytes written front now (Err Read) = IsServedUpTo board bytes written
-IsSession board bytes written front now (Err Write) = front (session_answers board bytes)
-IsSession board bytes written front now (Err Memory) = ⊥
+-- What a session comes to, by the result: its answers are written; those to the bytes that were read at a read fault;
+-- and a front of its answers at a write fault. The two words say of a text that it is written, and that a front of it
+-- is.
+abbrev pub IsSession : {F : Type 0} → Option F → List ℕ → List Card → List ℕ → (List ℕ → Type 0) → (List ℕ → Type 0) →
+    Option (List Card) → Result LinkStatus NoAnswer → Type 0
+IsSession told left board bytes written front now (Ok status) = IsServed board bytes written now status
+IsSession told left board bytes written front now (Err Read) = IsServedUpTo told left board bytes written
+IsSession told left board bytes written front now (Err Write) = front (session_answers board bytes)
+IsSession told left board bytes written front now (Err Memory) = ⊥
 
--- The bytes of a session are those that were left of the file, where the store tells its files.
-pub record HasServed {F : Type 0} (told : Option F) (left : List ℕ) (board : List Card)
+-- The bytes of a session are those that were left of the file before it, where the store tells its files.
+pub record HasServed {F : Type 0} (told : Option F) (before after : List ℕ) (board : List Card)
     (written front : List ℕ → Type 0) (now : Option (List Card)) (result : Result LinkStatus NoAnswer) : Type 0 where
   pub bytes : List ℕ
-  pub read : IfSome told (λ files. left ≡ bytes)
-  pub does : IsSession board bytes written front now result
+  pub read : IfSome told (λ files. before ≡ bytes)
+  pub does : IsSession told after board bytes written front now result

@@ -1,6 +1,6 @@
 -- The session of a link over the bytes of a file (the protocol remote bitbang, in this profile): what is answered to
 -- it, what it does to a board, and how it ends. The rules are this tool's own.
-use Rattle.std.specs.Prelude.{◌≡◌, ◌<◌, ◌≤◌, ℕ, true, List, length, take}
+use Rattle.std.specs.Prelude.{◌≡◌, ◌<◌, ◌≤◌, ℕ, true, List, ◌++◌, length, take, Option, IfSome}
 use Rattle.std.specs.List.{list_all}
 use Rattle.dev_card.specs.Card.{Card}
 use Rattle.link_server.specs.declared.orders.Order.TheVariants.{Quit, Refused}
@@ -43,3 +43,12 @@ pub data EndsWith (bytes : List ℕ) : LinkStatus → Type 0 where
   at_end : length bytes ≤ most_bytes → AllGoOn (session_bytes bytes) → EndsWith bytes Done
   at_bad_byte : (i : ℕ) → EndsAt Refused (session_bytes bytes) i → EndsWith bytes (BadByte i)
   at_limit : most_bytes < length bytes → AllGoOn (session_bytes bytes) → EndsWith bytes TooLong
+
+-- A session has not ended with the first bytes of a file that were read, and these are all that were read: the store
+-- has the others left, if it tells its files.
+pub record IsReadUpTo {F : Type 0} (told : Option F) (left bytes front : List ℕ) : Type 0 where
+  pub others : List ℕ
+  pub parts : bytes ≡ front ++ others
+  pub unread : IfSome told (λ files. left ≡ others)
+  pub within : length front ≤ most_bytes
+  pub goes_on : AllGoOn front

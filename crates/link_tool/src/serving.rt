@@ -28,7 +28,7 @@ fn serve<S: Shelf, D: Device, K: Sink>(
     requires whole { IsWhole lines.old }
     requires empty { gathered lines.old ≡ [] }
     ensures served { (cs : List Card) → cards_at (map D.fitted rack.old.items) places.now ≡ Some cs →
-        HasServed (S.told shelf.old) (S.left shelf.old) cs
+        HasServed (S.told shelf.old) (S.left shelf.old) (S.left shelf.new) cs
         (λ text. PutsOut K.Sink lines.old text lines.new) (λ text. PutsFront K.Sink lines.old text lines.new)
         (cards_at (map D.fitted rack.new.items) places.now) result }
     ensures kinds { map D.kind_of rack.new.items ≡ map D.kind_of rack.old.items }
@@ -65,7 +65,7 @@ pub(crate) fn serve_to<S: Shelf, K: Sink>(
     requires picked { (name : List ℕ) × S.reads shelf.old name }
     requires chain { IsTrue (is_chain (map fitted rack.old.items) places.now) }
     ensures served { (cs : List Card) → cards_at (map fitted rack.old.items) places.now ≡ Some cs →
-        HasServed (S.told shelf.old) (S.left shelf.old) cs
+        HasServed (S.told shelf.old) (S.left shelf.old) (S.left shelf.new) cs
         (λ text. K.written out.new ≡ then_bytes (K.written out.old) text)
         (λ text. MovesFront (K.written out.old) text (K.written out.new))
         (cards_at (map fitted rack.new.items) places.now) result }

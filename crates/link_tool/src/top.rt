@@ -36,7 +36,7 @@ fn answer_file<S: Shelf, K: Sink>(
     requires devices { CanBeFitted devices.now }
     requires rack { IsRack (map kind_of rack.old.items) }
     ensures answers { OfFile (S.told shelf.old) (Some path.now) (λ held. Answers kind_of fitted
-        (FileAnswer devices.now held) (FileDue devices.now held) (HeldLeft devices.now held)
+        (FileAnswer devices.now held) (FileDue S.Shelf shelf.new devices.now held) (HeldLeft devices.now held)
         (K.written out.old) (K.written out.new) rack.old.items rack.new.items result) }
     ensures shelf { KeepsShelf S.Shelf (λ read. read ≡ path.now) shelf.old shelf.new result }
     ensures output { KeepsCount K.Sink out.old out.new result }
@@ -58,7 +58,8 @@ fn answer_request<S: Shelf, K: Sink>(
 ) -> Result<LinkStatus, NoAnswer>
     requires { IsRack (map kind_of rack.old.items) }
     ensures answers { OfContents (S.told shelf.old) (files_named named.entry) (λ contents. Answers kind_of fitted
-        (RequestAnswer contents) (RequestDue contents) (RequestHoldsLeft contents)
+        (RequestAnswer contents) (RequestDue S.Shelf shelf.old shelf.new (files_named named.entry) contents)
+        (RequestHoldsLeft contents)
         (K.written out.old) (K.written out.new) rack.old.items rack.new.items result) }
     ensures shelf { KeepsShelf S.Shelf (IsReached (S.told shelf.old) (files_named named.entry))
         shelf.old shelf.new result }
@@ -83,7 +84,7 @@ fn run<S: Shelf, K: Sink>(
     requires { IsRack (map kind_of rack.old.items) }
     ensures answers { OfWords link_key (S.told shelf.old) (map string_bytes words.now) (λ contents. Answers
         kind_of fitted (WordsAnswer (map string_bytes words.now) (λ named. contents))
-        (WordsDue (map string_bytes words.now) contents)
+        (WordsDue S.Shelf shelf.old shelf.new (map string_bytes words.now) contents)
         (WordsHoldLeft (map string_bytes words.now) contents)
         (K.written out.old) (K.written out.new) rack.old.items rack.new.items result) }
     ensures shelf { KeepsShelf S.Shelf
@@ -122,12 +123,14 @@ pub fn run_link<S: Shelf, K: Sink>(
         result (map fitted rack.new.items)) }
 
     // A read fault comes only where the count of a file that the words name rose, of the bytes of the link only if no
-    // told board is refused. Then the answers to the bytes that were read are written, and nothing else.
+    // told board is refused. Then the answers to exactly the bytes that were read are written, and nothing else. With a
+    // store that tells its files those are all bytes of the file but what it has left.
     ensures read { result ≡ LinkStatus.ReadFault → HasReadCause S.Shelf
         (IsReachedBy link_key (S.told shelf.old) (map string_bytes words.now)) shelf.old shelf.new }
     ensures due { result ≡ LinkStatus.ReadFault →
         OfWords link_key (S.told shelf.old) (map string_bytes words.now) (λ contents.
-        WroteDue (WordsDue (map string_bytes words.now) contents) (K.written out.old) (K.written out.new)) }
+        WroteDue (WordsDue S.Shelf shelf.old shelf.new (map string_bytes words.now) contents)
+        (K.written out.old) (K.written out.new)) }
 
     // A write fault comes only where the sink's count rose, and then a prefix of the text is written.
     ensures write { result ≡ LinkStatus.WriteFault → HasRisen K.faults K.is_last out.old out.new }

@@ -23,7 +23,8 @@ pub feed-requires-clause-whole : goal.feed-requires-clause-whole
 feed-requires-clause-whole g c = of_board _ c.requires.fitted (λ cs e. (c.pieces.invariant.serving cs e).puts.whole)
 
 pub returns-in_default-clause-served : goal.returns-in_default-clause-served
-returns-in_default-clause-served g c = λ cs e. stop_read (c.pieces.invariant.serving cs e) c.pieces.invariant.empty
+returns-in_default-clause-served g c = λ cs e.
+    stop_read (c.pieces.invariant.serving cs e) c.pieces.invariant.empty c.in_default.ensures.lost c.pieces.invariant.open_now
 
 pub returns-then-is_empty-clause-served : goal.returns-then-is_empty-clause-served
 returns-then-is_empty-clause-served g c = λ cs e.

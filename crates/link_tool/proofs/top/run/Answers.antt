@@ -5,7 +5,7 @@ use Rattle.link_tool.proofs.top.run.Goals as goal
 
 pub returns-in-Ok-clause-answers : goal.returns-in-Ok-clause-answers
 returns-in-Ok-clause-answers g c =
-    words_of_request _ _ (g.K.Sink.written c.args.out.now) _ c.args.rack.now.items c.answer_request.new.rack.items (g.S.Shelf.told c.args.shelf.now)
+    words_of_request _ _ g.S.Shelf c.args.shelf.now c.answer_request.new.shelf (g.K.Sink.written c.args.out.now) _ c.args.rack.now.items c.answer_request.new.rack.items (g.S.Shelf.told c.args.shelf.now)
     (files_named c.in-Ok.named) c.answer_request.result c.in-Ok.ensures.request c.answer_request.ensures.answers
 
 pub returns-in-Ok-clause-shelf : goal.returns-in-Ok-clause-shelf
@@ -17,4 +17,4 @@ returns-in-Ok-clause-shelf g c = record {
 
 pub returns-in-Err-clause-answers : goal.returns-in-Err-clause-answers
 returns-in-Err-clause-answers g c =
-    words_refused _ _ (g.K.Sink.written c.args.out.now) c.args.rack.now.items (g.S.Shelf.told c.args.shelf.now) c.in-Err.n c.in-Err.ensures.usage
+    words_refused _ _ g.S.Shelf c.args.shelf.now c.args.shelf.now (g.K.Sink.written c.args.out.now) c.args.rack.now.items (g.S.Shelf.told c.args.shelf.now) c.in-Err.n c.in-Err.ensures.usage
