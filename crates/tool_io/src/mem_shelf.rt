@@ -1,7 +1,7 @@
 // A store in memory, whose calls fail where a test wants it.
 ghost use Rattle.std.specs.Prelude.{◌≡◌, ℕ, List, ◌+◌, ◌<◌, ◌≤◌, [], None, Some, length, map, IfOk, OnOk, OnErr, ◌-◌, ◌^◌, min, drop, ◌↔◌, ◌⊎◌, IsTrue, Contains, slice_index, replicate, string_bytes, slice_index_or, drop};
 ghost use Rattle.tool_io.specs.Causes.{HasCauseAt, CountKept, CountRose, IsSaturated};
-ghost use Rattle.tool_io.specs.Files.{file_of, Gives};
+ghost use Rattle.tool_io.specs.Files.{file_of, HasPicked, Gives};
 ghost use Rattle.tool_io.specs.Shelves.{place_of, raised, count_at, IsCountLastAt, files_of, IsPicked, left_of, Picks, ReadsAt};
 
 use crate::count::raise;
@@ -91,11 +91,14 @@ impl Shelf for MemShelf {
 
     ghost left = { left_of };
 
+    ghost picks = { λ _. None };
+
     fn pick(&mut self, name: &str) -> Result<(), Failed>
         ensures keeps { Some (files_of self.new) ≡ Some (files_of self.old) }
         ensures picks { OnOk result (IsPicked self.new name.now) }
         ensures start { OnOk result (file_of (files_of self.old) name.now ≡ Some (left_of self.new)) }
         ensures none { OnErr result ((name : List ℕ) → IsPicked self.new name → ⊥) }
+        ensures once { HasPicked None name.now None result }
         ensures cause { HasCauseAt count_at IsCountLastAt name.now self.old self.new result }
         ensures exact { Picks self.old name.now result self.new }
     {

@@ -1,7 +1,7 @@
 // The traits of the outside.
 ghost use Rattle.std.specs.Prelude.{◌≡◌, ◌<◌, ◌≤◌, List, ℕ, Option, length, take, IfSome, IfOk, OnOk, OnErr, Some};
 ghost use Rattle.tool_io.specs.Causes.{HasCause, HasCauseAt};
-ghost use Rattle.tool_io.specs.Files.{file_of, Gives};
+ghost use Rattle.tool_io.specs.Files.{file_of, HasPicked, Gives};
 ghost use Rattle.tool_io.specs.Bytes.{then_bytes, MovesFront};
 
 use thiserror::Error;
@@ -14,7 +14,7 @@ pub struct Failed;
 /// A store of named files, of which one at a time is read.
 ///
 /// A shelf tells its files to contracts, as one in memory does, or tells nothing, as one over the files of a system;
-/// either way it stays so, and a told file never changes. It has a count of faults for each name, which never falls.
+/// either way it stays so, and a told file never changes. It may also tell which files were picked. It has a count of faults for each name, which never falls.
 pub trait Shelf {
     /// The names and their bytes, where the shelf tells them.
     ghost told: { Self → Option (List (List ℕ × List ℕ)) };
@@ -31,6 +31,9 @@ pub trait Shelf {
     /// The bytes of that file that no read has given yet, where the shelf tells.
     ghost left: { Self → List ℕ };
 
+    /// The names of all picks, in their order, where the shelf tells these.
+    ghost picks: { Self → Option (List (List ℕ)) };
+
     /// Picks the file that is read from now on, from its first byte.
     ///
     /// `Failed` if there is none of this name, or it can't be had; then no file is read until the next pick.
@@ -39,6 +42,7 @@ pub trait Shelf {
         ensures picks { OnOk result (reads self.new name.now) }
         ensures start { OnOk result (IfSome (told self.old) (λ files. file_of files name.now ≡ Some (left self.new))) }
         ensures none { OnErr result ((name : List ℕ) → reads self.new name → ⊥) }
+        ensures once { HasPicked (picks self.old) name.now (picks self.new) result }
         ensures cause { HasCauseAt faults is_last name.now self.old self.new result };
 
     /// Fills a front of the slice with the next bytes of the picked file, and answers how many those are. 0 is the end.
@@ -53,6 +57,7 @@ pub trait Shelf {
         ensures bound { IfOk result (λ n. n ≤ length into.new) }
         ensures bytes { IfOk result (λ n. IfSome (told self.old) (λ _. Gives (left self.old) (left self.new) n into.new)) }
         ensures lost { OnErr result (left self.new ≡ left self.old) }
+        ensures unpicked { picks self.new ≡ picks self.old }
         ensures cause { (name : List ℕ) → reads self.old name → HasCauseAt faults is_last name self.old self.new result };
 }
 

@@ -1,7 +1,7 @@
 // A whole file.
 ghost use Rattle.std.specs.Prelude.{◌≡◌, ◌+◌, ◌<◌, ◌≤◌, length, Some, IfSome, IfOk, IsErrOf, IsSomeAnd};
 ghost use Rattle.tool_io.specs.Causes.{HasRisenAt, NoneFalls};
-ghost use Rattle.tool_io.specs.Files.{file_of};
+ghost use Rattle.tool_io.specs.Files.{file_of, HasPicked};
 
 use crate::Shelf;
 use crate::block::BLOCK;
@@ -39,6 +39,7 @@ pub fn read_whole<S: Shelf>(
     ensures fault { IsErrOf result ReadRefused.ReadFault → HasRisenAt S.faults S.is_last name.now shelf.old shelf.new }
     ensures bounded { (IsErrOf result ReadRefused.ReadFault → ⊥) → IfSome (S.told shelf.old) (λ files.
         IsSomeAnd (file_of files name.now) (λ bytes. length bytes ≤ length (S.left shelf.new) + (limit + 1))) }
+    ensures once { HasPicked (S.picks shelf.old) name.now (S.picks shelf.new) result }
     ensures keeps { S.told shelf.new ≡ S.told shelf.old }
     ensures later { NoneFalls S.faults S.is_last shelf.old shelf.new }
 {

@@ -47,6 +47,8 @@ impl<R: Files> Shelf for FileShelf<'_, R> {
 
     ghost left = { λ _. [] };
 
+    ghost picks = { λ _. None };
+
     fn pick(&mut self, name: &str) -> Result<(), Failed> {
         match File::open(self.rt, name) {
             Ok(file) => {

@@ -2,6 +2,7 @@ use Rattle.std.proofs.Common.{◌≡◌, ◌≤◌, ◌<◌, ◌+◌, ◌++◌, 
 use Rattle.std.proofs.lemmas.List.{length-take, take-append-le}
 use Rattle.tool_io.specs.Files.{file_of, Gives}
 use Rattle.tool_io.proofs.CauseLemmas.{counts_then, rose_after_at}
+use Rattle.tool_io.proofs.PickLemmas.{picks_first, picks_at_most}
 use Rattle.tool_io.proofs.reading.read_whole.Goals as goal
 
 -- the file of this name has these bytes, if that is told
@@ -64,6 +65,7 @@ turns-preserved g c =
       reads = c.in-Ok.ensures.same c.args.name.now c.turns.invariant.reads;
       so_far = rw (items, take-append-le c.in-Ok.n c.read.new.into _ c.in-Ok.ensures.bound)
           (read_more _ _ c.args.name.now c.turns.whole.items _ (g.S.Shelf.left c.read.new.self) c.read.new.into c.in-Ok.n c.turns.invariant.told c.turns.invariant.so_far c.in-Ok.ensures.bytes);
+      once = c.in-Ok.ensures.unpicked ∙ c.turns.invariant.once;
       kept = counts_then c.turns.invariant.kept (c.in-Ok.ensures.cause c.args.name.now c.turns.invariant.reads).kept;
       short = search rules;
     }
@@ -96,3 +98,15 @@ pub returns-clause-bounded : goal.returns-clause-bounded
 returns-clause-bounded g c = λ _.
     some_and _ _ _ (λ bytes. length bytes ≤ length (g.S.Shelf.left c.turns.shelf) + (c.args.limit + 1)) c.turns.invariant.so_far
     (omega (arith, length-append {A = ℕ}))
+
+pub returns-then-is_err-clause-once : goal.returns-then-is_err-clause-once
+returns-then-is_err-clause-once g c = picks_at_most _ c.pick.result c.pick.ensures.once
+
+pub returns-then-is_err-2-clause-once : goal.returns-then-is_err-2-clause-once
+returns-then-is_err-2-clause-once g c = picks_first _ (c.in-Ok.ensures.unpicked ∙ c.turns.invariant.once)
+
+pub returns-in-Err-clause-once : goal.returns-in-Err-clause-once
+returns-in-Err-clause-once g c = picks_first _ (c.in-Err.ensures.unpicked ∙ c.turns.invariant.once)
+
+pub returns-clause-once : goal.returns-clause-once
+returns-clause-once g c = picks_first _ c.turns.invariant.once

@@ -5,6 +5,7 @@ use Rattle.std.proofs.lemmas.Grind.{common_steps}
 use Rattle.std.proofs.lemmas.List.{with_items_is}
 use Rattle.tool_io.specs.Shelves.{place_of}
 use Rattle.tool_io.proofs.CauseLemmas.{counts_start}
+use Rattle.tool_io.proofs.PickLemmas.{picks_none}
 use Rattle.tool_io.proofs.ShelfLemmas.{length_names, counts_raised, file_of_place}
 use Rattle.tool_io.proofs.mem_shelf.MemShelfShelf.pick.Goals as goal
 
@@ -81,3 +82,6 @@ returns-clause-exact c =
       fault = tt;
       ok = rw at refl;
     })
+
+pub returns-then-fails-clause-once : goal.returns-then-fails-clause-once
+returns-then-fails-clause-once c = picks_none _ _
