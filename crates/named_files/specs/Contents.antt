@@ -1,6 +1,7 @@
 -- The contents of the two files, as they were read, and which of them is read. The rules are these tools' own.
 use Rattle.std.specs.Prelude.{◌≡◌, ℕ, List, [], ◌∷◌, Option, Some, IfSome}
 use Rattle.dev_card.specs.declared.desc.Desc.{Desc}
+use Rattle.tool_io.specs.Files.{PicksFront}
 use Rattle.tool_frame.specs.Files.{file_named, first_of, second_of}
 use Rattle.named_files.specs.Boards.{HasBoard}
 use Rattle.named_files.specs.Words.{FileNames, IsRequest}
@@ -65,3 +66,14 @@ pub record IsAskedAndReached (asks : FileNames → Type 0) (told : Option (List 
 -- a file that the words name and that is read, if they are a board and one more file
 abbrev pub IsReachedBy : List ℕ → Option (List (List ℕ × List ℕ)) → List (List ℕ) → List ℕ → Type 0
 IsReachedBy key told words path = IsAskedAndReached (IsRequest key words) told path
+
+-- the names of both files, in the order in which they are picked
+abbrev pub both_names : FileNames → List (List ℕ)
+both_names named = named.board ∷ named.file ∷ []
+
+-- The files that are picked for words: those of their request, each once and in its order, perhaps none or not the
+-- second; and none for words that are no request.
+pub data PicksByWords (key : List ℕ) (words : List (List ℕ)) (before after : Option (List (List ℕ))) : Type 0 where
+  picks_none : after ≡ before → PicksByWords key words before after
+  picks_both : (named : FileNames) → IsRequest key words named → PicksFront before (both_names named) after →
+      PicksByWords key words before after

@@ -1,6 +1,7 @@
 //! Boards in files.
 ghost use Rattle.std.specs.Prelude.{◌≡◌, ℕ, IfOk, IsErrOf, Err};
 ghost use Rattle.tool_io.specs.Causes.{HasRisenAt, NoneFalls};
+ghost use Rattle.tool_io.specs.Files.{HasPicked};
 ghost use Rattle.board_text.specs.declared.reason.BoardReason.{BoardReason};
 ghost use Rattle.board_text.specs.Boards.{IsBoard, IsFirstFault, CanBeFitted};
 ghost use Rattle.named_files.specs.declared.boards.BoardNotRead.TheVariants as refusals;
@@ -58,6 +59,7 @@ pub fn board_named<S: Shelf>(
     ensures fault { (line : ℕ) (reason : BoardReason) → result ≡ Err (refusals.At line reason) →
         ReadsBoardFault (S.told shelf.old) path.now line reason }
     ensures read { IsErrOf result BoardNotRead.Read → HasRisenAt S.faults S.is_last path.now shelf.old shelf.new }
+    ensures once { HasPicked (S.picks shelf.old) path.now (S.picks shelf.new) result }
     ensures keeps { S.told shelf.new ≡ S.told shelf.old }
     ensures later { NoneFalls S.faults S.is_last shelf.old shelf.new }
 {
