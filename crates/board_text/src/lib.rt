@@ -13,5 +13,6 @@ mod reason;
 mod register;
 mod shapes;
 
-pub use reading::{BoardTextRefused, read_board};
+pub use lines::first_line;
+pub use reading::{BoardTextRefused, MOST_BYTES, read_board};
 pub use reason::BoardReason;

@@ -94,7 +94,8 @@ fn without_return(line: &[u8]) -> &[u8]
     }
 }
 
-// The first line of some bytes, and how many bytes it has with its end.
+/// The first line of some bytes, and how many bytes it has with its end. A line ends with a line feed, which the last may
+/// lack, and a carriage return in front of the line feed is no part of it.
 pub fn first_line(bytes: &[u8]) -> (&[u8], usize)
     requires { 0 < length bytes.now }
     ensures some { 0 < result.1 }

@@ -25,7 +25,8 @@ use dev_card::{Desc, Kind, MOST_DEVICES, RegDesc};
 use std::alloc::{AllocError, Global};
 use thiserror::Error;
 
-const MOST_BYTES: usize = 1_048_576;
+/// The most bytes of a board.
+pub const MOST_BYTES: usize = 1_048_576;
 
 const MOST_REGISTERS: usize = 64;
 
