@@ -7,14 +7,11 @@ ghost use Rattle.board_text.specs.Boards.{IsBoard, IsFirstFault, CanBeFitted};
 ghost use Rattle.named_files.specs.declared.boards.BoardNotRead.TheVariants as refusals;
 ghost use Rattle.named_files.specs.Boards.{ReadsBoard, ReadsBoardFault};
 
-use board_text::{BoardReason, BoardTextRefused, read_board};
+use board_text::{BoardReason, BoardTextRefused, MOST_BYTES, read_board};
 use dev_card::Desc;
 use std::alloc::Global;
 use thiserror::Error;
 use tool_io::{ReadRefused, Shelf, read_whole};
-
-/// The most bytes of a board.
-const BOARD_LIMIT: u32 = 1_048_576;
 
 /// Why there is no board.
 #[derive(Clone, Copy, Debug, PartialEq, Eq, Error)]
@@ -63,7 +60,7 @@ pub fn board_named<S: Shelf>(
     ensures keeps { S.told shelf.new ≡ S.told shelf.old }
     ensures later { NoneFalls S.faults S.is_last shelf.old shelf.new }
 {
-    match read_whole(alloc, shelf, path, BOARD_LIMIT) {
+    match read_whole(alloc, shelf, path, MOST_BYTES as u32) {
         Ok(bytes) => board_of(alloc, &bytes),
         Err(ReadRefused::TooLong) => Err(BoardNotRead::At {
             line: 0,
