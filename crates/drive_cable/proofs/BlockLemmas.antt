@@ -1,0 +1,79 @@
+-- The bytes of a block, and its clocks.
+use Rattle.std.proofs.Common.{◌≡◌, ◌≤◌, ◌+◌, ◌-◌, ◌*◌, ◌/◌, ◌%◌, ◌==◌, nat_eq, ℕ, zero, suc, List, [], ◌∷◌, ◌++◌, map, length, take, drop, refl, sym, ap, subst, ◌∙◌, Bool, false, ◌&&◌, arith}
+use Rattle.std.proofs.lemmas.Bool.Decides.{nat_tests}
+use borrow.Rule.Slice.PartMut.{put_mid}
+use Rattle.std.specs.Prelude.{min, replicate}
+use Rattle.std.proofs.lemmas.List.{replicate-append-replicate, take-replicate, take_at}
+use Rattle.base.specs.Bits.{low_bits, number_of}
+use Rattle.base.proofs.NumberBits.{length-low_bits}
+use Rattle.dev_card.specs.Clocks.{is_nil, clocks_with}
+use Rattle.dev_card.specs.Blocks.{block_inputs}
+use Rattle.dev_card.specs.Board.{Input, tdos}
+use Rattle.dev_card.proofs.Scanning.{tdos_of_with}
+use Rattle.scan_paths.specs.Cables.{input_of}
+use Rattle.scan_paths.proofs.Shifting.{length_of_inputs}
+use Rattle.link_server.specs.Clients.{bytes_of_input, bytes_of_inputs}
+use Rattle.drive_cable.specs.declared.peer.Peer.{Ghosts as PeerOf}
+use Rattle.drive_cable.specs.Peers.{digits_of, PeerCarried}
+use Rattle.drive_cable.specs.PeerCalls.{BlockCarried}
+use Rattle.drive_cable.proofs.PartLemmas.{put_end}
+
+two_is_more : (m : ℕ) → (suc (suc m) == 1) ≡ false
+two_is_more m = grind (arith, nat_tests)
+
+last_of : (n m x : ℕ) (last : Bool) → n ≡ suc m → (last && (n == 1)) ≡ (last && is_nil (low_bits m x))
+last_of n m x last e = ap (λ k. last && (k == 1)) e ∙ ap (λ t. last && t) (none_left m)
+  where
+    none_left : (m : ℕ) → (suc m == 1) ≡ is_nil (low_bits m x)
+    none_left zero = refl
+    none_left (suc m) = two_is_more m
+
+-- the bytes of the first clock, and those of the rest
+pub block_put : (into front rest : List ℕ) (tdi n m : ℕ) (last tms : Bool) → n ≡ suc m → tms ≡ (last && (n == 1)) →
+    front ≡ bytes_of_input (record { tms = tms; tdi = nat_eq (tdi % 2) 1 }) → rest ≡ bytes_of_inputs (block_inputs (tdi / 2) m last) →
+    put_mid 3 (length (front ++ drop 3 into) - 3) (front ++ drop 3 into) rest ≡ bytes_of_inputs (block_inputs tdi n last)
+block_put into front rest tdi n m last tms e t f r =
+    ap (λ v. put_mid 3 (length (v ++ drop 3 into) - 3) (v ++ drop 3 into) rest)
+    (f ∙ ap (λ t. bytes_of_input (record { tms = t; tdi = nat_eq (tdi % 2) 1 })) (t ∙ last_of n m (tdi / 2) last e))
+    ∙ put_end 3 (bytes_of_input first ++ drop 3 into) rest (omega arith)
+    ∙ ap (λ v. bytes_of_input first ++ v) r
+    ∙ ap (λ n. bytes_of_inputs (block_inputs tdi n last)) (sym e)
+  where
+    first : Input
+    first = record { tms = last && is_nil (low_bits m (tdi / 2)); tdi = nat_eq (tdi % 2) 1 }
+
+went_in : (is : List Input) (bits : List Bool) → length is ≡ length bits → map input_of (clocks_with is bits) ≡ is
+went_in [] bits e = refl
+went_in (i ∷ is) [] e = absurd (omega (arith, e))
+went_in (i ∷ is) (b ∷ bits) e = ap (λ (z : List Input). i ∷ z) (went_in is bits (omega (arith, e)))
+
+length_of_block : (tdi n : ℕ) (last : Bool) → length (block_inputs tdi n last) ≡ n
+length_of_block tdi n last = length_of_inputs last (low_bits n tdi) ∙ length-low_bits n tdi
+
+pub few_inputs : (tdi n : ℕ) (last : Bool) → n ≤ 64 → length (block_inputs tdi n last) ≤ 64
+few_inputs tdi n last few = omega (arith, length_of_block tdi n last, few)
+
+-- the bytes of a block were sent, and as many bits came
+pub block_carried : {P : Type 0} (peer : PeerOf P) (old new : P) (tdi n number : ℕ) (last : Bool) (bytes more : List ℕ) (bits others : List Bool) →
+    bytes ≡ bytes_of_inputs (block_inputs tdi n last) → length bytes ≡ 3 * n → length bits ≡ n →
+    PeerCarried peer.sent peer.left old (take (3 * n) (bytes ++ more)) (digits_of bits) new → number ≡ number_of (take n (bits ++ others)) →
+    BlockCarried peer old (block_inputs tdi n last) number new
+block_carried peer old new tdi n number last bytes more bits others sent all len h is =
+    let same : length (block_inputs tdi n last) ≡ length bits = length_of_block tdi n last ∙ sym len in
+    let out : tdos (clocks_with (block_inputs tdi n last) bits) ≡ bits = tdos_of_with (block_inputs tdi n last) bits same in
+    record {
+      clocks = clocks_with (block_inputs tdi n last) bits;
+      went_in = went_in (block_inputs tdi n last) bits same;
+      bits = is ∙ ap (λ bs. number_of bs) (take_at bits others n len ∙ sym out);
+      carried = subst (λ v. PeerCarried peer.sent peer.left old v (digits_of (tdos (clocks_with (block_inputs tdi n last) bits))) new)
+          (take_at bytes more (3 * n) all ∙ sent)
+          (subst (λ bs. PeerCarried peer.sent peer.left old (take (3 * n) (bytes ++ more)) (digits_of bs) new) (sym out) h);
+    }
+
+-- so many of a byte, of which up to 192 are sent at once
+pub many_more : (n rest byte : ℕ) → n ≡ min rest 192 → replicate rest byte ≡ take n (replicate 192 byte) ++ replicate (rest - n) byte
+many_more n rest byte e =
+    let few : n ≤ 192 = omega (arith, e) in
+    let all : rest ≡ n + (rest - n) = omega (arith, e) in
+    ap (λ k. replicate k byte) all ∙ sym (replicate-append-replicate n (rest - n) byte)
+    ∙ ap (λ v. v ++ replicate (rest - n) byte) (sym (take-replicate n 192 byte few))

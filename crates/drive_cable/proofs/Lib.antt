@@ -1,0 +1,5 @@
+pub mod PeerLemmas
+mod PartLemmas
+mod BlockLemmas
+mod CableLemmas
+mod MemLemmas

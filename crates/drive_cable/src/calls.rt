@@ -1,0 +1,165 @@
+//! Bytes to a peer and answers from it, until all are through.
+ghost use Rattle.std.specs.Prelude.{◌≡◌, ◌+◌, ◌*◌, ◌≤◌, ◌<◌, ◌^◌, ◌==◌, ◌&&◌, [], length, replicate, true, IfOk};
+ghost use Rattle.tool_io.specs.Causes.{IsSaturated, CountKept, CountRose, HasCause, raised_count};
+ghost use Rattle.base.specs.Bits.{bit_value, number_of};
+ghost use Rattle.dev_card.specs.Blocks.{block_inputs};
+ghost use Rattle.link_server.specs.Clients.{bytes_of_input, bytes_of_inputs, bytes_of_wait};
+ghost use Rattle.drive_cable.specs.Peers.{digits_of};
+ghost use Rattle.drive_cable.specs.PeerCalls.{HasCarried, HasClocked, HasClockedBlock};
+
+use crate::peer::Peer;
+use tool_io::Failed;
+
+/// The most clocks of a block, and the bytes of as many.
+const MOST_CLOCKS: usize = 64;
+
+const MOST_BYTES: usize = 192;
+
+/// Counts one fault more, up to the last value of the type.
+pub(crate) fn raise(count: &mut u64)
+    ensures raised { count.new ≡ raised_count count.old }
+    ensures kept { CountKept count.old count.new (IsSaturated count.old) (IsSaturated count.new) }
+    ensures rose { CountRose count.old count.new (IsSaturated count.new) }
+{
+    *count = count.saturating_add(1);
+}
+
+/// Sends all of the bytes.
+///
+/// `Failed` as of the peer; a front of them was sent then.
+pub fn send_all<P: Peer>(peer: &mut P, bytes: &[u8]) -> Result<(), Failed>
+    ensures sent { HasCarried P.Peer peer.old bytes.now [] peer.new result }
+    ensures cause { HasCause P.faults P.is_last peer.old peer.new result }
+{
+    let mut rest = bytes;
+    'turns: while !rest.is_empty() {
+        let n = peer.send(rest)?;
+        rest = &rest[n as usize..];
+    }
+    Ok(())
+}
+
+// Fills the slice with bits.
+fn receive_all<P: Peer>(peer: &mut P, into: &mut [bool]) -> Result<(), Failed>
+    ensures length { length into.new ≡ length into.old }
+    ensures received { HasCarried P.Peer peer.old [] (digits_of into.new) peer.new result }
+    ensures cause { HasCause P.faults P.is_last peer.old peer.new result }
+{
+    if into.is_empty() {
+        return Ok(());
+    }
+    let n = peer.receive(into)?;
+    receive_all(peer, &mut into[n as usize..])
+}
+
+// Sends all of the bytes at once, and then fills the slice with the bits that are answered.
+fn ask<P: Peer>(peer: &mut P, bytes: &[u8], into: &mut [bool]) -> Result<(), Failed>
+    ensures length { length into.new ≡ length into.old }
+    ensures asked { HasCarried P.Peer peer.old bytes.now (digits_of into.new) peer.new result }
+    ensures cause { HasCause P.faults P.is_last peer.old peer.new result }
+{
+    send_all(peer, bytes)?;
+    peer.flush()?;
+    receive_all(peer, into)
+}
+
+// The bytes of one clock: TCK low, a question for TDO, and TCK high.
+fn clock_bytes(tms: bool, tdi: bool) -> [u8; 3]
+    ensures { result ≡ bytes_of_input (record { tms = tms; tdi = tdi }) }
+{
+    let levels = b'0' + if tms { 2 } else { 0 } + if tdi { 1 } else { 0 };
+    [levels, b'R', levels + 4]
+}
+
+// One clock over a peer.
+pub(crate) fn clock_peer<P: Peer>(peer: &mut P, tms: bool, tdi: bool) -> Result<bool, Failed>
+    ensures clocked { HasClocked P.Peer peer.old (record { tms = tms; tdi = tdi }) peer.new result }
+    ensures cause { HasCause P.faults P.is_last peer.old peer.new result }
+{
+    let mut bit = [false; 1];
+    ask(peer, &clock_bytes(tms, tdi), &mut bit)?;
+    Ok(bit[0])
+}
+
+// Puts the bytes of n clocks, with the lowest bits of a number, and TMS 1 at the last of them if it is so marked.
+fn put_clocks(into: &mut [u8], tdi: u64, n: u32, last: bool)
+    requires { length into.old ≡ 3 * n }
+    ensures { into.new ≡ bytes_of_inputs (block_inputs tdi n last) }
+{
+    if n == 0 {
+        return;
+    }
+    let bytes = clock_bytes(is_last(last, n), tdi % 2 == 1);
+    into[..3].copy_from_slice(&bytes);
+    put_clocks(&mut into[3..], tdi / 2, n - 1, last);
+}
+
+// Whether TMS is 1 at the first of n clocks.
+fn is_last(last: bool, n: u32) -> bool
+    ensures { result ≡ (last && (n == 1)) }
+{
+    last && n == 1
+}
+
+// The number of at most 64 bits, the first of them the lowest.
+fn number_in(bits: &[bool]) -> u64
+    requires { length bits.now ≤ 64 }
+    ensures number { result ≡ number_of bits.now }
+    ensures small { result < 2 ^ length bits.now }
+{
+    if bits.is_empty() {
+        return 0;
+    }
+    let rest = number_in(&bits[1..]);
+    with_bit(rest, bits[0], bits.len() as u32 - 1)
+}
+
+// One bit more at the lowest place of a number of n bits.
+fn with_bit(rest: u64, bit: bool, n: u32) -> u64
+    requires few { n < 64 }
+    requires small { rest < 2 ^ n }
+    ensures value { result ≡ bit_value bit + 2 * rest }
+    ensures small { result < 2 ^ (n + 1) }
+{
+    let double = rest * 2;
+    if bit { double + 1 } else { double }
+}
+
+// A block of n clocks over a peer: the bytes of all are sent, and then their answers are received.
+pub(crate) fn shift_peer<P: Peer>(peer: &mut P, tdi: u64, n: u32, last: bool) -> Result<u64, Failed>
+    requires { n ≤ 64 }
+    ensures shifted { HasClockedBlock P.Peer peer.old (block_inputs tdi n last) peer.new result }
+    ensures cause { HasCause P.faults P.is_last peer.old peer.new result }
+{
+    let mut bytes = [0u8; MOST_BYTES];
+    let count = n as usize;
+    put_clocks(&mut bytes[..3 * count], tdi, n, last);
+    let mut bits = [false; MOST_CLOCKS];
+    ask(peer, &bytes[..3 * count], &mut bits[..count])?;
+    Ok(number_in(&bits[..count]))
+}
+
+// Sends a byte so many times.
+fn send_many<P: Peer>(peer: &mut P, byte: u8, count: u32) -> Result<(), Failed>
+    ensures sent { HasCarried P.Peer peer.old (replicate count byte) [] peer.new result }
+    ensures cause { HasCause P.faults P.is_last peer.old peer.new result }
+{
+    let bytes = [byte; MOST_BYTES];
+    let mut rest = count;
+    'turns: while rest > 0 {
+        let n = rest.min(MOST_BYTES as u32);
+        send_all(peer, &bytes[..n as usize])?;
+        rest -= n;
+    }
+    Ok(())
+}
+
+// A wait over a peer, told by a byte for each millisecond, and one for each microsecond more.
+pub(crate) fn wait_peer<P: Peer>(peer: &mut P, usec: u32) -> Result<(), Failed>
+    ensures sent { HasCarried P.Peer peer.old (bytes_of_wait true usec) [] peer.new result }
+    ensures cause { HasCause P.faults P.is_last peer.old peer.new result }
+{
+    send_many(peer, b'Z', usec / 1000)?;
+    send_many(peer, b'z', usec % 1000)?;
+    peer.flush()
+}
