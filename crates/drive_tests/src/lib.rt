@@ -1,0 +1,5 @@
+//! Tests of a cable that is driven by bytes.
+#![tactic(auto)]
+
+#[cfg(test)]
+mod cable;
