@@ -74,6 +74,6 @@ both_names named = named.board ∷ named.file ∷ []
 -- The files that are picked for words: those of their request, each once and in its order, perhaps none or not the
 -- second; and none for words that are no request.
 pub data PicksByWords (key : List ℕ) (words : List (List ℕ)) (before after : Option (List (List ℕ))) : Type 0 where
-  picks_none : after ≡ before → PicksByWords key words before after
-  picks_both : (named : FileNames) → IsRequest key words named → PicksFront before (both_names named) after →
+  nothing_picked : after ≡ before → PicksByWords key words before after
+  files_picked : (named : FileNames) → IsRequest key words named → PicksFront before (both_names named) after →
       PicksByWords key words before after
