@@ -32,6 +32,7 @@ fn serve<S: Shelf, D: Device, K: Sink>(
         (λ text. PutsOut K.Sink lines.old text lines.new) (λ text. PutsFront K.Sink lines.old text lines.new)
         (cards_at (map D.fitted rack.new.items) places.now) result }
     ensures kinds { map D.kind_of rack.new.items ≡ map D.kind_of rack.old.items }
+    ensures unpicked { S.picks shelf.new ≡ S.picks shelf.old }
     ensures keeps { S.told shelf.new ≡ S.told shelf.old }
     ensures later { NoneFalls S.faults S.is_last shelf.old shelf.new }
     ensures read { (name : List ℕ) → S.reads shelf.old name → IsErrOf result NoAnswer.Read →
@@ -70,6 +71,7 @@ pub(crate) fn serve_to<S: Shelf, K: Sink>(
         (λ text. MovesFront (K.written out.old) text (K.written out.new))
         (cards_at (map fitted rack.new.items) places.now) result }
     ensures kinds { map kind_of rack.new.items ≡ map kind_of rack.old.items }
+    ensures unpicked { S.picks shelf.new ≡ S.picks shelf.old }
     ensures keeps { S.told shelf.new ≡ S.told shelf.old }
     ensures later { NoneFalls S.faults S.is_last shelf.old shelf.new }
     ensures read { (name : List ℕ) → S.reads shelf.old name → IsErrOf result NoAnswer.Read →

@@ -9,6 +9,7 @@ use Rattle.link_tool.proofs.serving.serve.Goals as goal
 pub pieces-init : goal.pieces-init
 pieces-init g c = record {
   told = refl;
+  unpicked = refl;
   reads = λ name r. r;
   kept = counts_start _ _;
   fitted = c.requires.fitted;
@@ -75,6 +76,7 @@ pieces-preserved g c =
     let fit = fits c.pieces.session.taken most_bytes c.room.result room piece c.min-room.ensures c.room.ensures inv.few in
     record {
       told = c.read.ensures.keeps ∙ inv.told;
+      unpicked = c.read.ensures.unpicked ∙ inv.unpicked;
       reads = λ name r. c.read.ensures.same name (inv.reads name r);
       kept = counts_then inv.kept (c.read.ensures.cause c.requires.picked.0 (inv.reads c.requires.picked.0 c.requires.picked.1)).kept;
       fitted = c.feed.ensures.fitted;

@@ -12,6 +12,7 @@ use Rattle.link_tool.proofs.serving.serve.Given as goal
 abbrev pub invariant-pieces : goal.invariant-pieces
 invariant-pieces g l = record {
   told : g.S.Shelf.told l.shelf ≡ g.S.Shelf.told l.fn.shelf;
+  unpicked : g.S.Shelf.picks l.shelf ≡ g.S.Shelf.picks l.fn.shelf;
   reads : (name : List ℕ) → g.S.Shelf.reads l.fn.shelf name → g.S.Shelf.reads l.shelf name;
   kept : NoneFalls g.S.Shelf.faults g.S.Shelf.is_last l.fn.shelf l.shelf;
   fitted : IsSome (cards_at (map g.D.Device.fitted l.rack.items) l.places);

@@ -1,4 +1,5 @@
 use Rattle.std.proofs.Common.{sym, ap, Err, refl, rules}
+use Rattle.tool_io.proofs.PickLemmas.{picks_then, picks_at_most}
 use Rattle.tool_frame.specs.declared.no_answer.NoAnswer.TheVariants.{Memory}
 use Rattle.named_files.proofs.BoardLemmas.{fault_is}
 use Rattle.named_files.specs.Named.{files_named}
@@ -36,3 +37,15 @@ returns-in-Err-Read-clause-answers g c =
 pub returns-in-Err-Memory-clause-answers : goal.returns-in-Err-Memory-clause-answers
 returns-in-Err-Memory-clause-answers g c =
     no_board_memory _ _ g.S.Shelf c.args.shelf.now c.board_named.new.shelf (g.K.Sink.written c.args.out.now) c.args.rack.now.items (g.S.Shelf.told c.args.shelf.now) (files_named c.args.named) (Err Memory) refl
+
+pub returns-in-Ok-clause-once : goal.returns-in-Ok-clause-once
+returns-in-Ok-clause-once g c = picks_then c.in-Ok.ensures.once c.answer_file.ensures.once
+
+pub returns-in-Err-At-clause-once : goal.returns-in-Err-At-clause-once
+returns-in-Err-At-clause-once g c = picks_at_most _ c.board_named.result c.board_named.ensures.once
+
+pub returns-in-Err-Read-clause-once : goal.returns-in-Err-Read-clause-once
+returns-in-Err-Read-clause-once g c = picks_at_most _ c.board_named.result c.board_named.ensures.once
+
+pub returns-in-Err-Memory-clause-once : goal.returns-in-Err-Memory-clause-once
+returns-in-Err-Memory-clause-once g c = picks_at_most _ c.board_named.result c.board_named.ensures.once

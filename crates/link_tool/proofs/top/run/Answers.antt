@@ -1,4 +1,6 @@
+use Rattle.std.proofs.Common.{refl}
 use Rattle.named_files.specs.Named.{files_named}
+use Rattle.named_files.specs.Contents.{nothing_picked, files_picked}
 use Rattle.named_files.proofs.ContentLemmas.{reached_by}
 use Rattle.link_tool.proofs.AnswerLemmas.{words_of_request, words_refused}
 use Rattle.link_tool.proofs.top.run.Goals as goal
@@ -18,3 +20,9 @@ returns-in-Ok-clause-shelf g c = record {
 pub returns-in-Err-clause-answers : goal.returns-in-Err-clause-answers
 returns-in-Err-clause-answers g c =
     words_refused _ _ g.S.Shelf c.args.shelf.now c.args.shelf.now (g.K.Sink.written c.args.out.now) c.args.rack.now.items (g.S.Shelf.told c.args.shelf.now) c.in-Err.n c.in-Err.ensures.usage
+
+pub returns-in-Ok-clause-once : goal.returns-in-Ok-clause-once
+returns-in-Ok-clause-once g c = files_picked (files_named c.in-Ok.named) c.in-Ok.ensures.request c.answer_request.ensures.once
+
+pub returns-in-Err-clause-once : goal.returns-in-Err-clause-once
+returns-in-Err-clause-once g c = nothing_picked refl
