@@ -1,6 +1,7 @@
 //! A peer in memory.
-ghost use Rattle.std.specs.Prelude.{◌≡◌, ◌≤◌, length, Some};
+ghost use Rattle.std.specs.Prelude.{◌≡◌, ◌<◌, ◌≤◌, [], length, Some};
 ghost use Rattle.tool_io.specs.Causes.{HasCause};
+ghost use Rattle.drive_cable.specs.Peers.{PeerCarried, SendAnswer, ReceiveAnswer};
 
 use crate::calls::raise;
 use crate::digits::put_bits;
@@ -27,7 +28,7 @@ pub struct MemPeer {
 }
 
 impl MemPeer {
-    ghost use Rattle.drive_cable.specs.MemPeers.{mem_sent, mem_left, mem_faults, IsMemLast, IsNewPeer};
+    ghost use Rattle.drive_cable.specs.MemPeers.{mem_sent, mem_left, mem_faults, IsMemLast, IsNewPeer, CallsExactly};
 
     /// A peer over this sink with these answers, of which a receive gives at most `bite`, at least 1. `failing` has the
     /// numbers of the calls that fail.
@@ -55,9 +56,10 @@ impl MemPeer {
 
     // Numbers a call, which fails if its number is listed.
     fn begin(&mut self) -> Result<(), Failed>
-        ensures sent { mem_sent self.new ≡ mem_sent self.old }
         ensures left { mem_left self.new ≡ mem_left self.old }
         ensures cause { HasCause mem_faults IsMemLast self.old self.new result }
+        ensures bytes { self.new.bytes ≡ self.old.bytes }
+        ensures exact { CallsExactly self.old result self.new }
     {
         self.number = self.number.saturating_add(1);
         if self.failing.contains(&self.number) {
@@ -69,7 +71,7 @@ impl MemPeer {
 }
 
 impl Peer for MemPeer {
-    ghost use Rattle.drive_cable.specs.MemPeers.{mem_sent, mem_left, mem_faults, IsMemLast};
+    ghost use Rattle.drive_cable.specs.MemPeers.{mem_sent, mem_left, mem_faults, IsMemLast, CallsExactly, SendsExactly, GivesExactly};
 
     ghost sent = { mem_sent };
 
@@ -79,13 +81,21 @@ impl Peer for MemPeer {
 
     ghost is_last = { IsMemLast };
 
-    fn open(&mut self, receive: &str, send: &str) -> Result<(), Failed> {
+    fn open(&mut self, receive: &str, send: &str) -> Result<(), Failed>
+        ensures still { PeerCarried mem_sent mem_left self.old [] [] self.new }
+        ensures cause { HasCause mem_faults IsMemLast self.old self.new result }
+        ensures exact { CallsExactly self.old result self.new }
+    {
         let _receive = receive;
         let _send = send;
         self.begin()
     }
 
-    fn send(&mut self, bytes: &[u8]) -> Result<u32, Failed> {
+    fn send(&mut self, bytes: &[u8]) -> Result<u32, Failed>
+        ensures sent { SendAnswer mem_sent mem_left self.old bytes.now self.new result }
+        ensures cause { HasCause mem_faults IsMemLast self.old self.new result }
+        ensures exact { SendsExactly self.old bytes.now result self.new }
+    {
         self.begin()?;
         match self.bytes.write(bytes) {
             Ok(n) => Ok(n),
@@ -96,11 +106,21 @@ impl Peer for MemPeer {
         }
     }
 
-    fn flush(&mut self) -> Result<(), Failed> {
+    fn flush(&mut self) -> Result<(), Failed>
+        ensures still { PeerCarried mem_sent mem_left self.old [] [] self.new }
+        ensures cause { HasCause mem_faults IsMemLast self.old self.new result }
+        ensures exact { CallsExactly self.old result self.new }
+    {
         self.begin()
     }
 
-    fn receive(&mut self, into: &mut [bool]) -> Result<u32, Failed> {
+    fn receive(&mut self, into: &mut [bool]) -> Result<u32, Failed>
+        requires some { 0 < length into.old }
+        ensures length { length into.new ≡ length into.old }
+        ensures received { ReceiveAnswer mem_sent mem_left self.old into.new self.new result }
+        ensures cause { HasCause mem_faults IsMemLast self.old self.new result }
+        ensures exact { GivesExactly self.old (length into.old) result self.new }
+    {
         self.begin()?;
         let most = into.len().min(self.bite as usize);
         let n = put_bits(&self.answers[self.given..], &mut into[..most]);
