@@ -114,7 +114,7 @@ clock_not_said (Export key value) h = refl
 clock_not_said (Usec n) h = refl
 clock_not_said (Hertz n) h = refl
 
-deed_follows : (k : Chain) (d : Deed) → SayNoClock (d ∷ []) → Follows k.far (deed_events k d) (deed_chain k d).far
+pub deed_follows : (k : Chain) (d : Deed) → SayNoClock (d ∷ []) → Follows k.far (deed_events k d) (deed_chain k d).far
 deed_follows k (Says event) h = said k.far event (clock_not_said event h.0)
 deed_follows k (Goes to) h = pulses_follow k.far (move_inputs k.tap to)
 deed_follows k (Stays n) h = pulses_follow k.far (stay_inputs k.tap n)
@@ -126,33 +126,33 @@ head_says (Goes to) ds h = (tt, h)
 head_says (Stays n) ds h = (tt, h)
 head_says (Scans scan) ds h = (tt, h)
 
-deeds_follow : (ds : List Deed) (k : Chain) → SayNoClock ds → Follows k.far (deeds_events k ds) (deeds_chain k ds).far
+pub deeds_follow : (ds : List Deed) (k : Chain) → SayNoClock ds → Follows k.far (deeds_events k ds) (deeds_chain k ds).far
 deeds_follow [] k h = no_events_follow k.far
 deeds_follow (d ∷ ds) k h =
     let p = head_says d ds h in
     both_follow k.far (deed_chain k d).far (deeds_chain (deed_chain k d) ds).far (deed_events k d) (deeds_events (deed_chain k d) ds) (deed_follows k d p.0) (deeds_follow ds (deed_chain k d) p.1)
 
 -- turns
-abbrev HappenedFollows : FarEnd → Happened → Type 0
+abbrev pub HappenedFollows : FarEnd → Happened → Type 0
 HappenedFollows far (Led es place s l) = Follows far es l.far
 HappenedFollows far (Finished es ending s l) = Follows far es l.far
-HappenedFollows far (Broke es f s l) = Unit {0}
+HappenedFollows far (Broke es f s l) = Follows far es l.far
 HappenedFollows far (Lacks es) = Unit {0}
 
-more_follow : (a b : FarEnd) (xs : List Event) (h : Happened) → Follows a xs b → HappenedFollows b h → HappenedFollows a (with_events xs h)
+pub more_follow : (a b : FarEnd) (xs : List Event) (h : Happened) → Follows a xs b → HappenedFollows b h → HappenedFollows a (with_events xs h)
 more_follow a b xs (Led es place s l) p q = both_follow a b l.far xs es p q
 more_follow a b xs (Finished es ending s l) p q = both_follow a b l.far xs es p q
-more_follow a b xs (Broke es f s l) p q = tt
+more_follow a b xs (Broke es f s l) p q = both_follow a b l.far xs es p q
 more_follow a b xs (Lacks es) p q = tt
 
-either_follows : (far : FarEnd) (b : Bool) (h : Happened) → HappenedFollows far h → HappenedFollows far (cond b h (Lacks []))
+pub either_follows : (far : FarEnd) (b : Bool) (h : Happened) → HappenedFollows far h → HappenedFollows far (cond b h (Lacks []))
 either_follows far true h p = p
 either_follows far false h p = tt
 
-turn_follows : (t : Turned) (k : Chain) → TurnSaysNoClock t → HappenedFollows k.far (happens k t)
+pub turn_follows : (t : Turned) (k : Chain) → TurnSaysNoClock t → HappenedFollows k.far (happens k t)
 turn_follows (Leads ds place s) k h = deeds_follow ds k h
 turn_follows (Over ds ending s) k h = deeds_follow ds k h
-turn_follows (Broken ds f s) k h = tt
+turn_follows (Broken ds f s) k h = deeds_follow ds k h
 turn_follows (Scanning ds scan rest) k h =
     let l : Chain = deeds_chain k ds in
     let l1 : Chain = deed_chain l (Scans scan) in
@@ -166,7 +166,7 @@ turn_follows (NoTurn ds) k h = tt
 abbrev pub RunFollows : FarEnd → Run → Type 0
 RunFollows far r = (ending : Ending) → ending_of r.outcome ≡ Some ending → Follows far r.events r.chain.far
 
-on_turn : (far : FarEnd) (h : Happened) (s : State) (k : Chain) (go : ℕ → State → Chain → Run) → HappenedFollows far h
+pub on_turn : (far : FarEnd) (h : Happened) (s : State) (k : Chain) (go : ℕ → State → Chain → Run) → HappenedFollows far h
     → ((place : ℕ) (t : State) (l : Chain) → RunFollows l.far (go place t l)) → RunFollows far (goes_on h s k go)
 on_turn far (Led es place t l) s k go p q = λ ending e. both_follow far l.far (go place t l).chain.far es (go place t l).events p (q place t l ending e)
 on_turn far (Finished es end t l) s k go p q = λ ending e. p

@@ -54,13 +54,17 @@ asked_part true first count ds is far g e =
     subst (λ f. IsPart (asked_lines true first count f) []) (sym e)
     (report_part (take count (drop first board)) (All-take (λ (c : Card). AreNames c.desc) count (drop first board) (All-drop (λ (c : Card). AreNames c.desc) first board named)))
 
+-- the text of a run whose clocks the board answers
+pub trace_of_run : (devices : List Desc) (r : Run) (ending : Ending) (report : Bool) (first count : ℕ) → All IsGood devices → Follows (Told (map fresh devices)) r.events r.chain.far
+    → IsTraceOf (map fresh devices) (text_of true r.events (asked_lines report first count r.chain.far) ending) r.chain.far
+trace_of_run devices r ending report first count g f =
+    trace_of (map fresh devices) r.events (asked_lines report first count r.chain.far) ending r.chain.far
+    (asked_part report first count devices (inputs_among r.events) r.chain.far g f.leads) f
+
 pub trace_of_play : (program : Played) (chosen : List ℕ) (n : ℕ) (base : BaseLengths) (devices : List Desc) (ending : Ending) (report : Bool) (first count : ℕ) → All IsGood devices
     → ending_of (play program chosen n base (Told (map fresh devices))).outcome ≡ Some ending
     → IsTraceOf (map fresh devices) (text_of true (play program chosen n base (Told (map fresh devices))).events
     (asked_lines report first count (play program chosen n base (Told (map fresh devices))).chain.far) ending) (play program chosen n base (Told (map fresh devices))).chain.far
 trace_of_play program chosen n base devices ending report first count g e =
     let board : List Card = map fresh devices in
-    let r : Run = play program chosen n base (Told board) in
-    let f : Follows (Told board) r.events r.chain.far = play_follows program chosen n base (Told board) ending e in
-    trace_of board r.events (asked_lines report first count r.chain.far) ending r.chain.far
-    (asked_part report first count devices (inputs_among r.events) r.chain.far g f.leads) f
+    trace_of_run devices (play program chosen n base (Told board)) ending report first count g (play_follows program chosen n base (Told board) ending e)
