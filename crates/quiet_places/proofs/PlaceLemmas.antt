@@ -1,15 +1,16 @@
 -- On the place at which a run goes on.
 use Rattle.std.proofs.Common.{◌≡◌, ℕ, List, [], ◌++◌, refl, sym, ap, subst, ◌∙◌}
-use Rattle.std.specs.Prelude.{Option, Some, None, IfSome, Result, Ok, Err, IfOk}
+use Rattle.std.specs.Prelude.{Option, Some, None, IfSome}
 use Rattle.dev_card.specs.Card.{Card}
 use Rattle.std.specs.Option.{option_map}
 use Rattle.tap_states.specs.declared.Tap.{Tap}
 use Rattle.tap_states.specs.declared.Tap.TheVariants.{Reset}
-use Rattle.dev_card.specs.Board.{board_after, tdos}
+use Rattle.dev_card.specs.Board.{Clock, board_after, tdos}
 use Rattle.dev_card.specs.FarEnds.{Told, far_end}
 use Rattle.dev_card.specs.Padding.{BaseLengths}
 use Rattle.scan_paths.specs.declared.cable.Cable.{Ghosts as CableOf}
 use Rattle.scan_paths.specs.Cables.{Signal}
+use Rattle.stapl_meaning.specs.declared.events.Event.{Event}
 use Rattle.stapl_meaning.specs.Deeds.{Chain}
 use Rattle.stapl_meaning.specs.States.{State, Happened, Led, Finished, Broke, Lacks}
 use Rattle.stapl_meaning.specs.Plays.{Run, after, goes_on, reset_inputs}
@@ -17,25 +18,22 @@ use Rattle.stapl_meaning.specs.declared.values.Held.{Held}
 use Rattle.stapl_code.specs.declared.raw.CodeLists.{CodeLists}
 use Rattle.written_cable.specs.declared.paper.Paper.{Ghosts as PaperOf}
 use Rattle.written_cable.specs.declared.pin_cable.PinCable.{PinCable}
-use Rattle.written_cable.specs.Pins.{cable_of, tap_of, base_of, port_chain}
+use Rattle.written_cable.specs.Pins.{cable_of, tap_of, base_of, port_chain, IsSamePort}
+use Rattle.written_cable.specs.PinLaws.{same_port, same_both}
+use Rattle.written_cable.specs.Signals.{signals_of}
 use Rattle.written_cable.specs.Resets.{IsReset}
-use Rattle.written_cable.specs.Ports.{chain_before, Does, Runs}
+use Rattle.written_cable.specs.Ports.{chain_before, Passes, PassesFront, Does, Runs}
 use Rattle.written_cable.proofs.DeedLemmas.{passes_both, before_both}
 use Rattle.machine_memory.specs.Zeros.{zeros_of_code}
 use Rattle.stapl_machine.specs.Runs.{run_of, run_ticks_of, play_from}
 use Rattle.stapl_machine.specs.Machines.{play_of}
 use Rattle.stapl_machine.proofs.RunLemmas.{goes_after}
-use Rattle.quiet_places.specs.Places.{GoesOnAt, GoesOnOver, GoesOnTold}
+use Rattle.quiet_places.specs.Places.{GoesOnAt, MakesOn, GoesOnOver, GoesOnTold}
 
 -- what holds of a place that is found
 pub if_found : {P Q : ℕ → Type 0} (found : Option ℕ) → ((p : ℕ) → P p → Q p) → IfSome found P → IfSome found Q
 if_found None f h = tt
 if_found (Some p) f h = f p h
-
-pub found_ok : {E : Type 0} {P Q : ℕ → Type 0} (result : Result (Option ℕ) E) → ((p : ℕ) → P p → Q p) → IfOk result (λ found. IfSome found P) →
-    IfOk result (λ found. IfSome found Q)
-found_ok (Ok found) f h = if_found found f h
-found_ok (Err e) f h = tt
 
 -- how a run stands does not depend on the state and the chain that it stands in if nothing is found to do
 alike_outcome : (h : Happened) (s t : State) (k l : Chain) (go : ℕ → State → Chain → Run) → (goes_on h s k go).outcome ≡ (goes_on h t l go).outcome
@@ -110,3 +108,30 @@ pub told_place : {C : Type 0} (board : C → Option (List Card)) (makes : C → 
     GoesOnTold board base (play_of code chosen n) old place
 told_place board makes base code chosen n old reset digits place r p = λ cs told.
     p (board_after cs reset_inputs) (r.made.made.cards ∙ ap (λ (o : Option (List Card)). option_map (λ ks. board_after ks reset_inputs) o) told)
+
+-- Signals that were made on the cable of a port.
+
+module _ {C O : Type 0} {makes : C → List Signal → C → Type 0} where
+  pub makes_none : (none : (c : C) → makes c [] c) (a : PinCable C O) → MakesOn makes a a
+  makes_none none a = record { same = same_port a; signals = []; made = none (cable_of a) }
+
+  pub makes_both : ((x y z : C) (front back : List Signal) → makes x front y → makes y back z → makes x (front ++ back) z) →
+      {a b c : PinCable C O} → MakesOn makes a b → MakesOn makes b c → MakesOn makes a c
+  makes_both both {a = a} {b = b} {c = c} p q = record {
+    same = same_both p.same q.same;
+    signals = p.signals ++ q.signals;
+    made = both (cable_of a) (cable_of b) (cable_of c) p.signals q.signals p.made q.made;
+  }
+
+module _ {C O : Type 0} {cable : CableOf C} {paper : PaperOf O} where
+  pub passes_make : {a b : PinCable C O} {events : List Event} {clocks : List Clock} → Passes cable paper a events clocks b → MakesOn cable.made a b
+  passes_make {events = events} p = record { same = p.same; signals = signals_of events; made = p.made }
+
+  pub front_makes : {a b : PinCable C O} {events : List Event} {clocks : List Clock} → IsSamePort a b → PassesFront cable paper a events clocks b → MakesOn cable.made a b
+  front_makes {events = events} same p = record { same = same; signals = signals_of events; made = p.made }
+
+-- they were made on the cable that the port stands over
+pub made_over : {C O : Type 0} (makes : C → List Signal → C → Type 0) (a b : PinCable C O) (old new : C) → cable_of a ≡ old → new ≡ cable_of b →
+    MakesOn makes a b → (signals : List Signal) × makes old signals new
+made_over makes a b old new e f m =
+    (m.signals, subst (λ c. makes old m.signals c) (sym f) (subst (λ c. makes c m.signals (cable_of b)) e m.made))

@@ -6,11 +6,13 @@ use Rattle.dev_card.specs.Board.{Clock}
 use Rattle.dev_card.specs.FarEnds.{Told}
 use Rattle.dev_card.specs.Padding.{BaseLengths}
 use Rattle.scan_paths.specs.declared.cable.Cable.{Ghosts as CableOf}
+use Rattle.scan_paths.specs.Cables.{Signal}
 use Rattle.stapl_meaning.specs.declared.events.Event.{Event}
 use Rattle.stapl_meaning.specs.Deeds.{Chain}
 use Rattle.stapl_meaning.specs.Plays.{Run, Going, chain_reset}
 use Rattle.written_cable.specs.declared.paper.Paper.{Ghosts as PaperOf}
 use Rattle.written_cable.specs.declared.pin_cable.PinCable.{PinCable}
+use Rattle.written_cable.specs.Pins.{cable_of, IsSamePort}
 use Rattle.written_cable.specs.Ports.{IsOpenPort, Passes, chain_before}
 use Rattle.stapl_code.specs.declared.raw.CodeLists.{CodeLists}
 use Rattle.machine_memory.specs.declared.memory.Workspace.{Workspace}
@@ -40,6 +42,12 @@ pub record GoesOnAt {C O : Type 0} (cable : CableOf C) (paper : PaperOf O)
   pub clocks : List Clock
   pub passed : Passes cable paper old events clocks new
   pub goes : (more : List Bool) → (all (chain_before cable paper old clocks more)).outcome ≡ Going place
+
+-- Signals were made on the cable of a port, and the port stands over the same parts.
+pub record MakesOn {C O : Type 0} (makes : C → List Signal → C → Type 0) (old new : PinCable C O) : Type 0 where
+  pub same : IsSamePort old new
+  pub signals : List Signal
+  pub made : makes (cable_of old) signals (cable_of new)
 
 -- where the cable tells its board, whose controllers are in the reset state, a run on it goes on at this place
 abbrev pub GoesOnOver : {C : Type 0} → (C → Option (List Card)) → BaseLengths → (Chain → Run) → C → ℕ → Type 0

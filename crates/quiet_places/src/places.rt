@@ -3,7 +3,7 @@ ghost use Rattle.std.specs.Prelude.{◌≡◌, [], IfOk, IfSome};
 ghost use Rattle.machine_memory.specs.Acts.{IsUnused, state_of};
 ghost use Rattle.stapl_instructions.specs.Moves.{led_on, IsClean};
 ghost use Rattle.stapl_machine.specs.Runs.{run_of, chosen_run, begun_run, play_from};
-ghost use Rattle.quiet_places.specs.Places.{CanTurn, GoesOnAt};
+ghost use Rattle.quiet_places.specs.Places.{CanTurn, GoesOnAt, MakesOn};
 
 use base::Steps;
 use machine_memory::memory::Workspace;
@@ -27,8 +27,9 @@ fn turns_place<C: Cable, O: Paper, L: Ledger>(
 ) -> Result<Option<u32>, Trouble>
     requires ready { CanTurn C.Cable O.Paper code.now work.old port.old }
     requires none { work.old.operands.items ≡ [] }
-    ensures { IfOk result (λ found. IfSome found (λ place. GoesOnAt C.Cable O.Paper
+    ensures place { IfOk result (λ found. IfSome found (λ place. GoesOnAt C.Cable O.Paper
         (run_of code.now turns start (state_of chosen.now work.old)) port.old place port.new)) }
+    ensures made { MakesOn C.made port.old port.new }
 {
     let mut place = start;
     for _turn in 0..turns {
@@ -52,8 +53,9 @@ fn chosen_place<C: Cable, O: Paper, L: Ledger>(
 ) -> Result<Option<u32>, Trouble>
     requires ready { CanTurn C.Cable O.Paper code.now work.old port.old }
     requires none { work.old.operands.items ≡ [] }
-    ensures { IfOk result (λ found. IfSome found (λ place. GoesOnAt C.Cable O.Paper
+    ensures place { IfOk result (λ found. IfSome found (λ place. GoesOnAt C.Cable O.Paper
         (chosen_run code.now turns (state_of chosen.now work.old)) port.old place port.new)) }
+    ensures made { MakesOn C.made port.old port.new }
 {
     match begin_next(code, chosen, &mut work.next) {
         Went::On(start) => match turns_place(code, chosen, start, work, port, turns, steps) {
@@ -76,9 +78,10 @@ fn begun_place<C: Cable, O: Paper, L: Ledger>(
 ) -> Result<Option<u32>, Trouble>
     requires ready { CanTurn C.Cable O.Paper code.now work.old port.old }
     requires none { IsClean went work.old.operands.items }
-    ensures { IfOk result (λ found. IfSome found (λ place. GoesOnAt C.Cable O.Paper
+    ensures place { IfOk result (λ found. IfSome found (λ place. GoesOnAt C.Cable O.Paper
         (begun_run code.now turns (led_on went (state_of chosen.now work.old)) (state_of chosen.now work.old))
         port.old place port.new)) }
+    ensures made { MakesOn C.made port.old port.new }
 {
     match went {
         Went::On(_) => match chosen_place(code, chosen, work, port, turns, steps) {
@@ -101,8 +104,9 @@ pub(crate) fn play_place<C: Cable, O: Paper, L: Ledger>(
     requires ready { CanTurn C.Cable O.Paper code.now work.old port.old }
     requires none { work.old.operands.items ≡ [] }
     requires unused { IsUnused work.old.memory }
-    ensures { IfOk result (λ found. IfSome found (λ place. GoesOnAt C.Cable O.Paper
+    ensures place { IfOk result (λ found. IfSome found (λ place. GoesOnAt C.Cable O.Paper
         (play_from code.now chosen.now work.old.memory.variables.items turns) port.old place port.new)) }
+    ensures made { MakesOn C.made port.old port.new }
 {
     work.next = 0;
     match rest_of_turn(code, chosen, 0, work, port, steps) {

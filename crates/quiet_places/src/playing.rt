@@ -1,6 +1,6 @@
 //! The place at which a play over a cable goes on.
-ghost use Rattle.std.specs.Prelude.{◌≡◌, false, length, IfOk, IfSome};
-ghost use Rattle.scan_paths.specs.Cables.{whole};
+ghost use Rattle.std.specs.Prelude.{◌≡◌, false, List, length, IfOk, IfSome};
+ghost use Rattle.scan_paths.specs.Cables.{Signal, whole};
 ghost use Rattle.scan_paths.specs.Scans.{lengths_of};
 ghost use Rattle.stapl_code.specs.Safe.{AllBelow};
 ghost use Rattle.stapl_machine.specs.Machines.{play_of, IsPrepared, IsResetCable};
@@ -30,12 +30,16 @@ fn place_on<C: Cable, O: Paper, L: Ledger>(
     requires fresh { IsFreshFor code.now work.old }
     requires reset { IsResetCable C.Cable cable.old }
     requires whole { O.failed out.old ≡ false }
-    ensures { IfOk result (λ found. IfSome found (GoesOnOver C.board (lengths_of base.now)
+    ensures place { IfOk result (λ found. IfSome found (GoesOnOver C.board (lengths_of base.now)
         (play_of code.now chosen.now turns) cable.old)) }
+    ensures made { (signals : List Signal) × C.made cable.old signals cable.new }
 {
     let lists = code.raw().lists();
     let mut port = PinCable::over(cable, out, Digits::none(), false, *base);
-    play_place(lists, chosen, work, &mut port, turns, steps)
+    match play_place(lists, chosen, work, &mut port, turns, steps) {
+        Ok(place) => Ok(place),
+        Err(trouble) => Err(trouble),
+    }
 }
 
 // The same over lines.
@@ -51,8 +55,9 @@ fn place_with<C: Cable, K: Sink, L: Ledger>(
 ) -> Result<Option<u32>, Trouble>
     requires fresh { IsFreshFor code.now work.old }
     requires reset { IsResetCable C.Cable cable.old }
-    ensures { IfOk result (λ found. IfSome found (GoesOnOver C.board (lengths_of base.now)
+    ensures place { IfOk result (λ found. IfSome found (GoesOnOver C.board (lengths_of base.now)
         (play_of code.now chosen.now turns) cable.old)) }
+    ensures made { (signals : List Signal) × C.made cable.old signals cable.new }
 {
     let mut lines = Lines::new(sink);
     place_on(work, code, chosen, base, cable, &mut lines, turns, steps)
@@ -60,6 +65,7 @@ fn place_with<C: Cable, K: Sink, L: Ledger>(
 
 /// The place in a code at which the play of the chosen procedures goes on after so many turns, if it does: over a cable
 /// that tells its board, the place of the play on that board. The machine is prepared for the code, and is given up.
+/// Whatever is answered, nothing but signals was made on the cable.
 ///
 /// It takes no memory. A `Trouble` comes as at a play.
 pub fn place_after<C: Cable, K: Sink, L: Ledger>(
@@ -75,8 +81,9 @@ pub fn place_after<C: Cable, K: Sink, L: Ledger>(
     requires prepared { IsPrepared code.now machine }
     requires chosen { AllBelow (length code.now.procedures) chosen.now }
     requires whole_cable { C.breakage cable.old ≡ whole }
-    ensures { IfOk result (λ found. IfSome found (GoesOnTold C.board (lengths_of base.now)
+    ensures place { IfOk result (λ found. IfSome found (GoesOnTold C.board (lengths_of base.now)
         (play_of code.now chosen.now turns) cable.old)) }
+    ensures made { (signals : List Signal) × C.made cable.old signals cable.new }
 {
     let mut machine = machine;
     match machine.reset_chain(cable) {

@@ -66,7 +66,8 @@ fn first_piece(
     requires devices { CanBeFitted descs.now }
     requires rack { IsRack (map kind_of rack.old.items) }
     requires unquiet { IsCodeBetween code.now chosen.now descs.now 0 turns why }
-    ensures { IfOk result (JudgesPlay code.now chosen.now turns descs.now) }
+    ensures verdict { IfOk result (JudgesPlay code.now chosen.now turns descs.now) }
+    ensures kinds { map kind_of rack.new.items ≡ map kind_of rack.old.items }
 {
     let (turn, reason) = first_between(alloc, code, chosen, rack, descs, 0, turns, why)?;
     if turn == 0 {
@@ -79,7 +80,7 @@ fn first_piece(
 /// Whether the play of the chosen procedures of a code on a board of these devices alone is quiet for at most so many
 /// turns, and how it ended then; or the first deed that is not quiet. The devices are fitted into the rack.
 ///
-/// `AllocError` comes for want of memory, or if a scan has 2 ^ 64 bits or more.
+/// `AllocError` comes for want of memory, or if a scan has 2 ^ 64 bits or more. Each device keeps its kind.
 pub fn quiet_play(
     alloc: Global,
     code: &Code,
@@ -91,7 +92,8 @@ pub fn quiet_play(
     requires below { AllBelow (length code.now.procedures) chosen.now }
     requires devices { CanBeFitted descs.now }
     requires rack { IsRack (map kind_of rack.old.items) }
-    ensures { IfOk result (JudgesPlay code.now chosen.now turns descs.now) }
+    ensures verdict { IfOk result (JudgesPlay code.now chosen.now turns descs.now) }
+    ensures kinds { map kind_of rack.new.items ≡ map kind_of rack.old.items }
 {
     let judged = judge(alloc, code, chosen, rack, descs, turns)?;
     match judged.unquiet {

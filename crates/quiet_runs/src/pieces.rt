@@ -1,8 +1,10 @@
 //! The piece of a turn.
-ghost use Rattle.std.specs.Prelude.{◌≡◌, ◌<◌, ◌^◌, length, map, Some, IsTrue, IfOk, IfSome, slice_get};
+ghost use Rattle.std.specs.Prelude.{◌≡◌, ◌<◌, ◌^◌, List, length, map, Some, IsTrue, IfOk, IfSome, slice_get};
 ghost use Rattle.dev_card.specs.Card.{fresh};
-ghost use Rattle.scan_paths.specs.Cables.{whole};
+ghost use Rattle.scan_paths.specs.Cables.{Signal, whole};
 ghost use Rattle.board_text.specs.Boards.{CanBeFitted};
+ghost use Rattle.chain_sim.specs.Chains.{devices_of, chain_places};
+ghost use Rattle.chain_sim.specs.Chains.{IsOverSame as IsSameRack};
 ghost use Rattle.chain_sim.specs.Places.{cards_at, is_chain};
 ghost use Rattle.chain_sim.specs.Rack.{IsRack};
 ghost use Rattle.stapl_code.specs.Safe.{AllBelow};
@@ -40,8 +42,9 @@ fn place_counted<C: Cable, L: Ledger>(
     requires prepared { IsPrepared code.now machine }
     requires below { AllBelow (length code.now.procedures) chosen.now }
     requires whole { C.breakage cable.old ≡ whole }
-    ensures { IfOk result (λ found. IfSome found (GoesOnTold C.board no_base
+    ensures place { IfOk result (λ found. IfSome found (GoesOnTold C.board no_base
         (play_of code.now chosen.now turns) cable.old)) }
+    ensures made { (signals : List Signal) × C.made cable.old signals cable.new }
 {
     let mut steps = Steps::<L>::none(blank);
     let mut silence = Silence;
@@ -58,22 +61,26 @@ fn place_counted<C: Cable, L: Ledger>(
     )
 }
 
-// The same. Its steps are counted in a ledger that nobody asks.
-fn place_over<C: Cable>(
+// The same over a chain of new devices of these descriptions. Its steps are counted in a ledger that nobody asks.
+fn place_over(
     machine: Machine,
     code: &Code,
     chosen: &[u32],
-    cable: &mut C,
+    chain: &mut Chain,
+    descs: &[Desc],
     turns: u32,
 ) -> Result<Option<u32>, Trouble>
     requires prepared { IsPrepared code.now machine }
     requires below { AllBelow (length code.now.procedures) chosen.now }
-    requires whole { C.breakage cable.old ≡ whole }
-    ensures { IfOk result (λ found. IfSome found (GoesOnTold C.board no_base
-        (play_of code.now chosen.now turns) cable.old)) }
+    requires chain { IsTrue (is_chain (map fitted (devices_of chain.old)) (chain_places chain.old)) }
+    requires cards { cards_at (map fitted (devices_of chain.old)) (chain_places chain.old)
+        ≡ Some (map fresh descs.now) }
+    ensures place { IfOk result (λ found. IfSome found (GoesOnAlone code.now chosen.now turns descs.now)) }
+    ensures same_rack { IsSameRack chain.old chain.new }
+    ensures kinds { map kind_of (devices_of chain.new) ≡ map kind_of (devices_of chain.old) }
 {
     let blank = Blank::new(1);
-    place_counted::<C, Brand>(machine, code, chosen, cable, turns, blank)
+    place_counted::<Chain, Brand>(machine, code, chosen, chain, turns, blank)
 }
 
 // The same over new devices at these places of the rack.
@@ -90,10 +97,11 @@ fn place_alone(
     requires below { AllBelow (length code.now.procedures) chosen.now }
     requires chain { IsTrue (is_chain (map fitted rack.old.items) places.now) }
     requires cards { cards_at (map fitted rack.old.items) places.now ≡ Some (map fresh descs.now) }
-    ensures { IfOk result (λ found. IfSome found (GoesOnAlone code.now chosen.now turns descs.now)) }
+    ensures place { IfOk result (λ found. IfSome found (GoesOnAlone code.now chosen.now turns descs.now)) }
+    ensures kinds { map kind_of rack.new.items ≡ map kind_of rack.old.items }
 {
     let mut chain = Chain::over(rack, places);
-    place_over(machine, code, chosen, &mut chain, turns)
+    place_over(machine, code, chosen, &mut chain, descs, turns)
 }
 
 // The piece of the Turn at a place of a code.
@@ -107,7 +115,8 @@ fn piece_in(code: &Code, place: u32) -> Option<u32>
 /// The piece of the turn after so many turns of the play of the chosen procedures on a board of these devices alone,
 /// which is fitted into the rack.
 ///
-/// `AllocError` comes for want of memory; no clause says that it does not come if the play has no such turn.
+/// `AllocError` comes for want of memory; no clause says that it does not come if the play has no such turn. Each device
+/// keeps its kind.
 pub(crate) fn turn_piece(
     alloc: Global,
     code: &Code,
@@ -119,7 +128,8 @@ pub(crate) fn turn_piece(
     requires below { AllBelow (length code.now.procedures) chosen.now }
     requires devices { CanBeFitted descs.now }
     requires rack { IsRack (map kind_of rack.old.items) }
-    ensures { IfOk result (TellsPiece code.now chosen.now before descs.now) }
+    ensures piece { IfOk result (TellsPiece code.now chosen.now before descs.now) }
+    ensures kinds { map kind_of rack.new.items ≡ map kind_of rack.old.items }
 {
     let places = fit_board(alloc, rack, descs)?;
     let machine = Machine::prepare(alloc, code)?;

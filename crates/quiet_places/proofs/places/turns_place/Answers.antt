@@ -6,7 +6,7 @@ use Rattle.stapl_machine.specs.Runs.{run_of, run_ticks_of}
 use Rattle.stapl_instructions.proofs.OperandLemmas.{room_kept}
 use Rattle.stapl_machine.proofs.TurnLemmas.{does_same}
 use Rattle.stapl_machine.proofs.RunLemmas.{runs_none, turn_on, one_left, none_left}
-use Rattle.quiet_places.proofs.PlaceLemmas.{run_place}
+use Rattle.quiet_places.proofs.PlaceLemmas.{run_place, makes_both, passes_make, front_makes}
 use Rattle.quiet_places.proofs.places.turns_place.Goals as goal
 
 pub loop-turn-init : goal.loop-turn-init
@@ -46,10 +46,21 @@ loop-turn-preserved g c =
           (λ k. ap (λ n. run_of code n place s k) e) (λ k. ap (λ n. run_ticks_of code n place s k) e) c.loop-turn.invariant.runs c.in-Ok-On.to u d;
     }
 
-pub returns : goal.returns
-returns g c =
+pub returns-clause-place : goal.returns-clause-place
+returns-clause-place g c =
     let m = g.C.Cable in let code = c.args.code.now in let chosen = c.args.chosen.now in
     let first = state_of chosen c.args.work.now in let s = state_of chosen c.loop-turn.work in
     run_place m g.O.Paper c.args.port.now c.loop-turn.port code (run_of code c.args.turns c.args.start first)
     (run_ticks_of code c.args.turns c.args.start first) (c.args.turns - c.loop-turn._turn) c.loop-turn.place s
     c.args.steps.now c.loop-turn.steps (none_left c.args.turns c.loop-turn._turn (omega arith)) c.loop-turn.invariant.runs
+
+pub returns-clause-made : goal.returns-clause-made
+returns-clause-made g c = passes_make c.loop-turn.invariant.runs.passed
+
+pub returns-in-Ok-Over-clause-made : goal.returns-in-Ok-Over-clause-made
+returns-in-Ok-Over-clause-made g c =
+    makes_both g.met.C.Cable.both_made (passes_make c.loop-turn.invariant.runs.passed) (passes_make c.in-Ok-Over.ensures.does.passed)
+
+pub returns-in-Err-clause-made : goal.returns-in-Err-clause-made
+returns-in-Err-clause-made g c =
+    makes_both g.met.C.Cable.both_made (passes_make c.loop-turn.invariant.runs.passed) (front_makes c.in-Err.ensures.keeps.kept.same c.in-Err.ensures.does.passed)

@@ -5,8 +5,8 @@ use Rattle.stapl_machine.specs.Machines.{play_of}
 use Rattle.quiet_places.specs.Places.{GoesOnTold}
 use Rattle.quiet_runs.proofs.pieces.place_counted.Goals as goal
 
-pub returns : goal.returns
-returns g c =
+pub returns-clause-place : goal.returns-clause-place
+returns-clause-place g c =
     subst (λ (base : BaseLengths). IfOk c.place_after.result
     (λ found. IfSome found (GoesOnTold g.C.Cable.board base (play_of c.args.code.now c.args.chosen.now c.args.turns) c.args.cable.now)))
-    (c.none-base.ensures []) c.place_after.ensures
+    (c.none-base.ensures []) c.place_after.ensures.place
