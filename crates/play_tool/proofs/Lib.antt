@@ -8,5 +8,8 @@ pub mod SoakLemmas
 pub mod OneChoice
 pub mod OneAnswer
 pub mod AnsweredLemmas
+pub mod FinalLemmas
 pub mod AloneLemmas
 pub mod CompiledLemmas
+pub mod CodeFollows
+pub mod TracedLemmas

@@ -4,6 +4,7 @@ pub mod Answers
 pub mod FinalRacks
 pub mod Alone
 pub mod Compiled
+pub mod Traced
 pub mod ReadContents
 pub mod Held
 pub mod TopCalls

@@ -13,8 +13,9 @@ use Rattle.play_words.specs.Words.{play_files, files_of, IsRequest}
 use Rattle.play_words.specs.declared.status.Status.{Status}
 use Rattle.play_words.specs.Statuses.{IsOfPlay}
 use Rattle.play_tool.specs.FinalRacks.{WordsHoldFinal, AskForPlay}
-use Rattle.play_tool.specs.Alone.{IsQuietAlone, PlaysAlone}
+use Rattle.play_tool.specs.Alone.{IsQuietAlone, DoesAsAlone}
 use Rattle.play_tool.specs.Compiled.{RunsCompiled, PlaysProgram}
+use Rattle.play_tool.specs.Traced.{PlaysWithPins, IsTraced}
 
 -- the files of a play are named, each at its place
 abbrev pub ArePlayFiles : FilePlay → List (Option (List ℕ)) → Type 0
@@ -63,12 +64,14 @@ pub record IsReachedBy (told : Option (List (List ℕ × List ℕ))) (words : Li
 -- What the tool has done for words, with these contents of their files: it has written the answer, and nothing else, and
 -- its status is the answer's. After a play, to its ending or for all its turns, the rack holds the board that the play
 -- leaves: device i of the board, counted from 0, stands at the place of its kind among the three places from 3 * i on.
--- What is written of a play for a run of devices of a board, and its status, are those of the play on that run alone,
--- if this is quiet for all its turns and no clocks are asked for; and those of a play of a code that a program was
--- compiled to are those of the play of that program.
+-- A play for a run of devices of a board does what the play on that run alone does, if this is quiet for all its turns
+-- and no clocks are asked for: text, status, and what the devices of the run hold then. What is written of a play of a
+-- code that a program was compiled to, and its status, are those of the play of that program. If the clocks of a play
+-- of a program are asked for, its text is a trace of its board.
 pub record Answered (answers : List ℕ → Status → Type 0) (words : List (List ℕ)) (contents : List (Option (List ℕ)))
     (before after : Option (List ℕ)) (status : Status) (rack : List (Option SoundCard)) : Type 0 where
   pub wrote : Wrote answers before after status
   pub leaves : AskForPlay words → IsOfPlay status → WordsHoldFinal words contents rack
-  pub alone : (q : IsQuietAlone words (λ request. contents)) → Wrote (PlaysAlone q) before after status
+  pub alone : (q : IsQuietAlone words (λ request. contents)) → DoesAsAlone q before after status rack
   pub compiled : (q : RunsCompiled words (λ request. contents)) → Wrote (PlaysProgram q) before after status
+  pub traced : (q : PlaysWithPins words (λ request. contents)) → IsOfPlay status → Wrote (IsTraced q rack) before after status
