@@ -36,6 +36,12 @@ pub const HELP: &[u8] = b"zanutero: checks, lists, compiles and plays STAPL prog
   zanutero --piece N program=PATH
       shows piece N of the program, from 1, with its line, and if the program
       is refused there, why and what to do
+  zanutero --line N board=PATH
+      shows line N of the board, from 1, and if the board is refused there, why
+      and what to do
+  zanutero --board board=PATH
+      checks the board: counts its devices, or shows its first faulty line as
+      --line does
   zanutero --help
   zanutero --version
 

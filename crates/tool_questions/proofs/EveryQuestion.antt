@@ -14,24 +14,20 @@ use Rattle.stapl_syntax.specs.Trees.{StmtTree}
 use Rattle.stapl_syntax.specs.Programs.{IsProgram, FirstFault}
 use Rattle.stapl_checker.proofs.Answered.{program_or_fault}
 use Rattle.stapl_checker.proofs.UniqueLemmas.{no_fault}
+use Rattle.command_words.specs.KeyedWords.{NamesPath}
 use Rattle.command_words.proofs.FoundOrNot.{IsFoundOrNot, path_or_not, number_or_not}
 use Rattle.named_files.specs.Texts.{usage_line}
 use Rattle.tool_questions.specs.Explanations.{word_paragraphs}
 use Rattle.play_words.specs.declared.status.Status.{Status}
 use Rattle.play_words.specs.declared.status.Status.TheVariants.{Done, Usage}
 use Rattle.tool_questions.specs.declared.report.Refusal.{Refusal}
-use Rattle.tool_questions.specs.Pieces.{piece_numbered, RefusalAt, refusal_text, shown_text, KnownAnswer, shown, ended, lacking, too_long, PieceAnswer, known, long}
-use Rattle.tool_questions.specs.Questions.{IsUsage, IsExplained, explained, unknown, WordAnswer, NamesPiece, NamesProgram, no_file, after_file, HasPieceUsage, no_number, after_number, PieceQuestionAnswer, asked, refused, QuestionAnswer, of_word, of_piece, no_question}
+use Rattle.tool_questions.specs.Numbers.{part_numbered}
+use Rattle.tool_questions.specs.Pieces.{RefusalAt, refusal_text, shown_text, KnownAnswer, shown, ended, lacking, too_long, PieceAnswer, known, long, HeldPieceAnswer}
+use Rattle.tool_questions.specs.BoardLines.{HeldLineAnswer, HeldCheckAnswer}
+use Rattle.tool_questions.specs.Questions.{FileQuestion, of_piece, of_line, of_board, question_word, file_key, IsExplained, explained, unknown, WordAnswer, NamesPart, no_file, after_file, AreFileUsage, no_number, after_number, HasPartUsage, PartQuestionAnswer, asked, refused, WholeQuestionAnswer, asked_whole, refused_whole, FileQuestionAnswer, QuestionAnswer, of_word, of_file, no_question}
+use Rattle.tool_questions.proofs.Said.{IsAnswered, usage}
+use Rattle.tool_questions.proofs.EveryLine.{every_line, every_check}
 use Rattle.tool_questions.proofs.ReportLemmas.{elsewhere}
-
--- A relation of a text and a status has an answer.
-record IsAnswered (answers : List ℕ → Status → Type 0) : Type 0 where
-  text : List ℕ
-  status : Status
-  answer : answers text status
-
-usage : (m : ℕ) → IsAnswered (IsUsage m)
-usage m = record { text = usage_line m; status = Usage m; answer = record { said_is = refl; status_is = refl } }
 
 -- A text.
 
@@ -49,7 +45,7 @@ refusal_by : (text : List ℕ) (number : ℕ) → ((statements : List StmtTree) 
 refusal_by text number (inl program) = record { refusal = None; is = λ line reason fault. no_fault program.0 program.1 fault }
 refusal_by text number (inr fault) = refusal_here text fault.0 number fault.1 fault.2 fault.3 (cases_eq fault.0 number)
 
-known_by : (text : List ℕ) (number : ℕ) (pieces : List Piece) → IsCut text pieces → (place : Option Piece) → place ≡ piece_numbered number pieces → (refusal : Option Refusal) →
+known_by : (text : List ℕ) (number : ℕ) (pieces : List Piece) → IsCut text pieces → (place : Option Piece) → place ≡ part_numbered number pieces → (refusal : Option Refusal) →
     RefusalAt text number refusal → IsAnswered (KnownAnswer text number)
 known_by text number pieces cut (Some piece) at refusal is =
     record {
@@ -74,7 +70,7 @@ every_known : (text : List ℕ) (number : ℕ) → IsAnswered (KnownAnswer text 
 every_known text number =
     let pieces = cut_exists text in
     let found = refusal_by text number (program_or_fault text) in
-    known_by text number pieces.0 pieces.1 (piece_numbered number pieces.0) refl found.refusal found.is
+    known_by text number pieces.0 pieces.1 (part_numbered number pieces.0) refl found.refusal found.is
 
 piece_by : (text : List ℕ) (number : ℕ) → (text_limit < length text) ⊎ (length text ≤ text_limit) → IsAnswered (PieceAnswer text number)
 piece_by text number (inl more) =
@@ -96,42 +92,70 @@ every_word [] = usage 2
 every_word (word ∷ []) = explained_by word (word_paragraphs word) refl
 every_word (word ∷ other ∷ rest) = usage 3
 
-refuses : (bytes : List ℕ) (rest : List (List ℕ)) (m : ℕ) → HasPieceUsage rest m → IsAnswered (PieceQuestionAnswer (Some bytes) rest)
-refuses bytes rest m is = let a = usage m in record { text = a.text; status = a.status; answer = refused m is a.answer }
+module _ (key : List ℕ) (knows : ℕ → List ℕ → Status → Type 0) (every : (n : ℕ) → IsAnswered (knows n)) where
+  refuses : (rest : List (List ℕ)) (m : ℕ) → HasPartUsage key rest m → IsAnswered (PartQuestionAnswer key knows rest)
+  refuses rest m is = let a = usage m in record { text = a.text; status = a.status; answer = refused m is a.answer }
 
-shows : (bytes word file path : List ℕ) (n : ℕ) → NamesPiece word n → NamesProgram file path → IsAnswered (PieceQuestionAnswer (Some bytes) (word ∷ file ∷ []))
-shows bytes word file path n number named =
-    let a = every_piece bytes n in record { text = a.text; status = a.status; answer = asked n path (number, named) a.answer }
+  shows : (word file path : List ℕ) (n : ℕ) → NamesPart word n → NamesPath key file path → IsAnswered (PartQuestionAnswer key knows (word ∷ file ∷ []))
+  shows word file path n number named =
+      let a = every n in record { text = a.text; status = a.status; answer = asked n path (number, named) a.answer }
 
-by_file : (bytes word file : List ℕ) (rest : List (List ℕ)) (n : ℕ) → NamesPiece word n → IsFoundOrNot (NamesProgram file) →
-    IsAnswered (PieceQuestionAnswer (Some bytes) (word ∷ file ∷ rest))
-by_file bytes word file rest n number (inr none) = refuses bytes (word ∷ file ∷ rest) 3 (after_number n number (no_file none refl))
-by_file bytes word file [] n number (inl found) = shows bytes word file found.0 n number found.1
-by_file bytes word file (more ∷ rest) n number (inl found) = refuses bytes (word ∷ file ∷ more ∷ rest) 4 (after_number n number (after_file found.0 found.1 refl))
+  by_file : (word file : List ℕ) (rest : List (List ℕ)) (n : ℕ) → NamesPart word n → IsFoundOrNot (NamesPath key file) →
+      IsAnswered (PartQuestionAnswer key knows (word ∷ file ∷ rest))
+  by_file word file rest n number (inr none) = refuses (word ∷ file ∷ rest) 3 (after_number n number (no_file none refl))
+  by_file word file [] n number (inl found) = shows word file found.0 n number found.1
+  by_file word file (more ∷ rest) n number (inl found) = refuses (word ∷ file ∷ more ∷ rest) 4 (after_number n number (after_file found.0 found.1 refl))
 
-by_number : (bytes word : List ℕ) (rest : List (List ℕ)) → IsFoundOrNot (NamesPiece word) → IsAnswered (PieceQuestionAnswer (Some bytes) (word ∷ rest))
-by_number bytes word rest (inr none) = refuses bytes (word ∷ rest) 2 (no_number none refl)
-by_number bytes word [] (inl found) = refuses bytes (word ∷ []) 3 (after_number found.0 found.1 refl)
-by_number bytes word (file ∷ rest) (inl found) = by_file bytes word file rest found.0 found.1 (path_or_not (codes "program=") file)
+  by_number : (word : List ℕ) (rest : List (List ℕ)) → IsFoundOrNot (NamesPart word) → IsAnswered (PartQuestionAnswer key knows (word ∷ rest))
+  by_number word rest (inr none) = refuses (word ∷ rest) 2 (no_number none refl)
+  by_number word [] (inl found) = refuses (word ∷ []) 3 (after_number found.0 found.1 refl)
+  by_number word (file ∷ rest) (inl found) = by_file word file rest found.0 found.1 (path_or_not key file)
 
-every_piece_question : (bytes : List ℕ) (rest : List (List ℕ)) → IsAnswered (PieceQuestionAnswer (Some bytes) rest)
-every_piece_question bytes [] = refuses bytes [] 2 refl
-every_piece_question bytes (word ∷ rest) = by_number bytes word rest (number_or_not (codes "") 0 4294967295 word)
+  every_part_question : (rest : List (List ℕ)) → IsAnswered (PartQuestionAnswer key knows rest)
+  every_part_question [] = refuses [] 2 refl
+  every_part_question (word ∷ rest) = by_number word rest (number_or_not (codes "") 0 4294967295 word)
 
-by_first : (bytes first : List ℕ) (rest : List (List ℕ)) (x y : Bool) → bytes_eq first (codes "--explain") ≡ x → bytes_eq first (codes "--piece") ≡ y →
+module _ (key : List ℕ) (knows : List ℕ → Status → Type 0) (every : IsAnswered knows) where
+  refuses_whole : (rest : List (List ℕ)) (m : ℕ) → AreFileUsage key 2 rest m → IsAnswered (WholeQuestionAnswer key knows rest)
+  refuses_whole rest m is = let a = usage m in record { text = a.text; status = a.status; answer = refused_whole m is a.answer }
+
+  by_whole_file : (file : List ℕ) (rest : List (List ℕ)) → IsFoundOrNot (NamesPath key file) → IsAnswered (WholeQuestionAnswer key knows (file ∷ rest))
+  by_whole_file file rest (inr none) = refuses_whole (file ∷ rest) 2 (no_file none refl)
+  by_whole_file file [] (inl found) = record { text = every.text; status = every.status; answer = asked_whole found.0 found.1 every.answer }
+  by_whole_file file (more ∷ rest) (inl found) = refuses_whole (file ∷ more ∷ rest) 3 (after_file found.0 found.1 refl)
+
+  every_whole_question : (rest : List (List ℕ)) → IsAnswered (WholeQuestionAnswer key knows rest)
+  every_whole_question [] = refuses_whole [] 2 refl
+  every_whole_question (file ∷ rest) = by_whole_file file rest (path_or_not key file)
+
+every_file_question : (bytes : List ℕ) (question : FileQuestion) (rest : List (List ℕ)) → IsAnswered (FileQuestionAnswer question (Some bytes) rest)
+every_file_question bytes of_piece rest = every_part_question (file_key of_piece) (λ n. HeldPieceAnswer n (Some bytes)) (every_piece bytes) rest
+every_file_question bytes of_line rest = every_part_question (file_key of_line) (λ n. HeldLineAnswer n (Some bytes)) (every_line bytes) rest
+every_file_question bytes of_board rest = every_whole_question (file_key of_board) (HeldCheckAnswer (Some bytes)) (every_check bytes) rest
+
+by_question : (bytes first : List ℕ) (rest : List (List ℕ)) (question : FileQuestion) → bytes_eq first (question_word question) ≡ true →
     IsAnswered (QuestionAnswer (Some bytes) (first ∷ rest))
-by_first bytes first rest true y is_word e =
+by_question bytes first rest question is =
+    let first_is = (bytes_eq-Decides first (question_word question)).0 is in
+    let a = every_file_question bytes question rest in
+    record { text = a.text; status = a.status; answer = of_file question rest (ap (λ (w : List ℕ). w ∷ rest) first_is) a.answer }
+
+by_first : (bytes first : List ℕ) (rest : List (List ℕ)) (w p l b : Bool) → bytes_eq first (codes "--explain") ≡ w → bytes_eq first (codes "--piece") ≡ p →
+    bytes_eq first (codes "--line") ≡ l → bytes_eq first (codes "--board") ≡ b → IsAnswered (QuestionAnswer (Some bytes) (first ∷ rest))
+by_first bytes first rest true p l b is_word no_piece no_line no_board =
     let first_is = (bytes_eq-Decides first (codes "--explain")).0 is_word in
     let a = every_word rest in record { text = a.text; status = a.status; answer = of_word rest (ap (λ (w : List ℕ). w ∷ rest) first_is) a.answer }
-by_first bytes first rest false true no_word is_piece =
-    let first_is = (bytes_eq-Decides first (codes "--piece")).0 is_piece in
-    let a = every_piece_question bytes rest in record { text = a.text; status = a.status; answer = of_piece rest (ap (λ (w : List ℕ). w ∷ rest) first_is) a.answer }
-by_first bytes first rest false false no_word no_piece =
+by_first bytes first rest false true l b no_word is_piece no_line no_board = by_question bytes first rest of_piece is_piece
+by_first bytes first rest false false true b no_word no_piece is_line no_board = by_question bytes first rest of_line is_line
+by_first bytes first rest false false false true no_word no_piece no_line is_board = by_question bytes first rest of_board is_board
+by_first bytes first rest false false false false no_word no_piece no_line no_board =
     let a = usage 1 in
-    let none = or_from (bytes_eq first (codes "--explain")) (bytes_eq first (codes "--piece")) no_word no_piece in
+    let none = or_from (bytes_eq first (codes "--explain")) _ no_word (or_from (bytes_eq first (codes "--piece")) _ no_piece
+    (or_from (bytes_eq first (codes "--line")) (bytes_eq first (codes "--board")) no_line no_board)) in
     record { text = a.text; status = a.status; answer = no_question none a.answer }
 
 pub every_question : (bytes : List ℕ) (words : List (List ℕ)) → (text : List ℕ) × (status : Status) × QuestionAnswer (Some bytes) words text status
 every_question bytes [] = let a = usage 1 in (a.text, a.status, no_question refl a.answer)
 every_question bytes (first ∷ rest) =
-    let a = by_first bytes first rest (bytes_eq first (codes "--explain")) (bytes_eq first (codes "--piece")) refl refl in (a.text, a.status, a.answer)
+    let a = by_first bytes first rest (bytes_eq first (codes "--explain")) (bytes_eq first (codes "--piece")) (bytes_eq first (codes "--line"))
+    (bytes_eq first (codes "--board")) refl refl refl refl in (a.text, a.status, a.answer)

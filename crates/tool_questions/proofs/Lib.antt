@@ -1,5 +1,10 @@
 pub mod ReportLemmas
 pub mod WordLemmas
+pub mod LineLemmas
+pub mod Said
+pub mod AskedLemmas
+pub mod OneLine
 pub mod OneAnswer
+pub mod EveryLine
 pub mod EveryQuestion
 pub mod TableLemmas

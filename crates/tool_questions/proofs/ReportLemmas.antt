@@ -14,9 +14,10 @@ use Rattle.stapl_lexer.specs.declared.piece.Piece.{Piece}
 use Rattle.stapl_lexer.specs.declared.reason.Reason.{Reason}
 use Rattle.stapl_syntax.specs.Programs.{FirstFault}
 use Rattle.stapl_checker.proofs.UniqueLemmas.{one_first_fault}
-use Rattle.tool_questions.specs.Pieces.{piece_numbered, RefusalAt, IsLongAnswer, PieceAnswer, long, HeldPieceAnswer}
+use Rattle.tool_questions.specs.Numbers.{part_numbered}
+use Rattle.tool_questions.specs.Pieces.{RefusalAt, IsLongAnswer, PieceAnswer, long, HeldPieceAnswer}
 
-pub numbered : (number : ℕ) (pieces : List Piece) → number ≢ 0 → piece_numbered number pieces ≡ slice_get pieces (number - 1)
+pub numbered : (number : ℕ) (pieces : List Piece) → number ≢ 0 → part_numbered number pieces ≡ slice_get pieces (number - 1)
 numbered zero pieces some = absurd (some refl)
 numbered (suc i) pieces some = ap (slice_get pieces) (omega arith)
 
@@ -26,11 +27,11 @@ some_at P [] i all = tt
 some_at P (x ∷ xs) zero all = All-head P x xs all
 some_at P (x ∷ xs) (suc i) all = some_at P xs i (All-tail P x xs all)
 
-numbered_has : (P : Piece → Type 0) (number : ℕ) (pieces : List Piece) → All P pieces → IfSome (piece_numbered number pieces) P
+numbered_has : (P : Piece → Type 0) (number : ℕ) (pieces : List Piece) → All P pieces → IfSome (part_numbered number pieces) P
 numbered_has P zero pieces all = tt
 numbered_has P (suc i) pieces all = some_at P pieces i all
 
-pub place_has : (P : Piece → Type 0) (number : ℕ) (pieces : List Piece) (place : Option Piece) → place ≡ piece_numbered number pieces → All P pieces →
+pub place_has : (P : Piece → Type 0) (number : ℕ) (pieces : List Piece) (place : Option Piece) → place ≡ part_numbered number pieces → All P pieces →
     IfSome place P
 place_has P number pieces place is all = rw is (numbered_has P number pieces all)
 

@@ -6,14 +6,13 @@ use Rattle.stapl_meaning.specs.Texts.{fault_name}
 use Rattle.stapl_code.specs.declared.reason.CodeReason.{CodeReason}
 use Rattle.stapl_code.specs.Reasons as code_reasons
 use Rattle.board_text.specs.declared.reason.BoardReason.{BoardReason}
-use Rattle.board_text.specs.Reasons as board_reasons
-use Rattle.tool_questions.specs.Explanations.{paragraphs, reason_paragraphs}
+use Rattle.tool_questions.specs.Explanations.{paragraphs, reason_paragraphs, board_reason_paragraphs}
 
 abbrev pub IsReasonExplained : Reason → Type 0
 IsReasonExplained reason = reason_paragraphs reason ≢ []
 
 abbrev pub IsBoardReasonExplained : BoardReason → Type 0
-IsBoardReasonExplained reason = paragraphs (board_reasons.reason_name reason ++ codes ", of a board:") ≢ []
+IsBoardReasonExplained reason = board_reason_paragraphs reason ≢ []
 
 abbrev pub IsCodeReasonExplained : CodeReason → Type 0
 IsCodeReasonExplained reason = paragraphs (code_reasons.reason_name reason ++ codes ", of a code:") ≢ []

@@ -5,6 +5,8 @@ use Rattle.std.specs.Str.Lines.{lines}
 use Rattle.std.specs.Str.{str_eq_ignore_ascii_case}
 use Rattle.stapl_lexer.specs.declared.reason.Reason.{Reason}
 use Rattle.stapl_lexer.specs.Reasons.{reason_name}
+use Rattle.board_text.specs.declared.reason.BoardReason.{BoardReason}
+use Rattle.board_text.specs.Reasons as boards
 use Rattle.tool_questions.specs.declared.explanation_texts.TheConstants.{EXPLANATIONS}
 
 -- a line begins with these bytes, in whatever letter case
@@ -22,3 +24,7 @@ word_paragraphs word = if list_any (λ b. b == 44) word then [] else paragraphs 
 -- what is said of a reason against a program
 abbrev pub reason_paragraphs : Reason → List (List ℕ)
 reason_paragraphs reason = paragraphs (reason_name reason ++ codes ", of a program:")
+
+-- and against a board
+abbrev pub board_reason_paragraphs : BoardReason → List (List ℕ)
+board_reason_paragraphs reason = paragraphs (boards.reason_name reason ++ codes ", of a board:")

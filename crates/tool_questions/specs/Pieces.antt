@@ -1,5 +1,5 @@
 -- What is said of a piece of a program. The lines are this tool's own.
-use Rattle.std.specs.Prelude.{◌≡◌, ◌≤◌, ◌<◌, ◌-◌, ℕ, pos, zero, suc, List, [], ◌++◌, length, take, drop, codes, slice_get, slice_range, Option, None, Some, IsSomeAnd}
+use Rattle.std.specs.Prelude.{◌≡◌, ◌≤◌, ◌<◌, ◌-◌, ℕ, pos, List, [], ◌++◌, length, take, drop, codes, slice_range, Option, None, Some, IsSomeAnd}
 use Rattle.std.specs.Char.{is_ascii_whitespace}
 use Rattle.std.specs.List.{prefix_len, suffix_len, flat_map}
 use Rattle.tool_io.specs.Texts.{labelled, number_line, word_line}
@@ -10,15 +10,11 @@ use Rattle.stapl_lexer.specs.Pieces.{IsCut, text_limit}
 use Rattle.stapl_syntax.specs.Programs.{FirstFault}
 use Rattle.named_files.specs.Texts.{refusal_line, usage_line}
 use Rattle.tool_questions.specs.Explanations.{reason_paragraphs}
+use Rattle.tool_questions.specs.Numbers.{part_numbered}
 use Rattle.play_words.specs.declared.status.Status.{Status}
 use Rattle.play_words.specs.declared.status.Status.TheVariants.{Done, Usage}
 use Rattle.tool_questions.specs.declared.report.PieceReport.{PieceReport}
 use Rattle.tool_questions.specs.declared.report.Refusal.{Refusal}
-
--- the piece with a number, counted from 1
-abbrev pub piece_numbered : ℕ → List Piece → Option Piece
-piece_numbered zero pieces = None
-piece_numbered (suc i) pieces = slice_get pieces i
 
 -- some bytes without white space before and after them
 abbrev pub without_end : List ℕ → List ℕ
@@ -58,7 +54,7 @@ shown_text text number piece refusal = piece_text text number piece ++ refusal_t
 pub record IsReport (text : List ℕ) (number : ℕ) (report : PieceReport) : Type 0 where
   pub pieces : List Piece
   pub cut : IsCut text pieces
-  pub place : report.place ≡ piece_numbered number pieces
+  pub place : report.place ≡ part_numbered number pieces
   pub refusal : RefusalAt text number report.refusal
 
 -- What is answered for a piece of a text that is not too long: the piece is shown; or the text is refused at its end,

@@ -1,5 +1,5 @@
 -- Questions about what the tool says, and their answers. The rules are this tool's own.
-use Rattle.std.specs.Prelude.{◌≡◌, ◌≢◌, ℕ, pos, Bool, false, ◌||◌, List, [], ◌∷◌, codes, Option}
+use Rattle.std.specs.Prelude.{◌≡◌, ◌≢◌, ◌+◌, ℕ, pos, Bool, false, ◌||◌, List, [], ◌∷◌, codes, Option}
 use Rattle.std.specs.Str.{bytes_eq}
 use Rattle.std.specs.List.{flat_map}
 use Rattle.tool_io.specs.Texts.{word_line}
@@ -9,10 +9,30 @@ use Rattle.tool_questions.specs.Explanations.{word_paragraphs}
 use Rattle.play_words.specs.declared.status.Status.{Status}
 use Rattle.play_words.specs.declared.status.Status.TheVariants.{Done, Usage}
 use Rattle.tool_questions.specs.Pieces.{HeldPieceAnswer}
+use Rattle.tool_questions.specs.BoardLines.{HeldLineAnswer, HeldCheckAnswer}
+
+-- the questions about a file: for a piece of a program, for a line of a board, and for a board alone
+pub data FileQuestion : Type 0 where
+  of_piece : FileQuestion
+  of_line : FileQuestion
+  of_board : FileQuestion
+
+-- the first word of each
+abbrev pub question_word : FileQuestion → List ℕ
+question_word of_piece = codes "--piece"
+question_word of_line = codes "--line"
+question_word of_board = codes "--board"
+
+-- the key of its file
+abbrev pub file_key : FileQuestion → List ℕ
+file_key of_piece = codes "program="
+file_key of_line = codes "board="
+file_key of_board = codes "board="
 
 -- the first word is that of a question
 abbrev pub is_question : List ℕ → Bool
-is_question word = bytes_eq word (codes "--explain") || bytes_eq word (codes "--piece")
+is_question word =
+    bytes_eq word (codes "--explain") || (bytes_eq word (codes "--piece") || (bytes_eq word (codes "--line") || bytes_eq word (codes "--board")))
 
 abbrev pub ask_question : List (List ℕ) → Bool
 ask_question [] = false
@@ -34,60 +54,75 @@ WordAnswer [] said status = IsUsage 2 said status
 WordAnswer (word ∷ []) said status = IsExplained word said status
 WordAnswer (word ∷ other ∷ rest) said status = IsUsage 3 said status
 
--- a word that is the number of a piece
-abbrev pub NamesPiece : List ℕ → ℕ → Type 0
-NamesPiece word n = NamesNumber (codes "") 0 4294967295 word n
+-- a word that is the number of a piece or of a line
+abbrev pub NamesPart : List ℕ → ℕ → Type 0
+NamesPart word n = NamesNumber (codes "") 0 4294967295 word n
 
--- a word that names the file of a program
-abbrev pub NamesProgram : List ℕ → List ℕ → Type 0
-NamesProgram word path = NamesPath (codes "program=") word path
+-- The words are one, the file under this key.
+abbrev pub IsFileNamed : List ℕ → List (List ℕ) → List ℕ → Type 0
+IsFileNamed key (file ∷ []) path = NamesPath key file path
+IsFileNamed key _ path = ⊥
 
--- The words after the number are the file of the program.
-abbrev pub IsFileNamed : List (List ℕ) → List ℕ → Type 0
-IsFileNamed (file ∷ []) path = NamesProgram file path
-IsFileNamed _ path = ⊥
-
--- The words after `--piece` are the number of a piece and the file of its program.
-abbrev pub IsPieceAsked : List (List ℕ) → ℕ → List ℕ → Type 0
-IsPieceAsked [] n path = ⊥
-IsPieceAsked (word ∷ rest) n path = NamesPiece word n × IsFileNamed rest path
+-- The words are the number of a part of a text, and the file of the text.
+abbrev pub IsPartAsked : List ℕ → List (List ℕ) → ℕ → List ℕ → Type 0
+IsPartAsked key [] n path = ⊥
+IsPartAsked key (word ∷ rest) n path = NamesPart word n × IsFileNamed key rest path
 
 -- The first word of the command, counted from 1, that is not so; or the number of words plus 1 if one is missing. First
--- what follows the file, then the file and what follows it, then all words after `--piece`.
-abbrev pub IsMoreUsage : List (List ℕ) → ℕ → Type 0
-IsMoreUsage [] m = ⊥
-IsMoreUsage (word ∷ rest) m = m ≡ 4
+-- what follows the file, then the file, which is the word at this place, and what follows it, then the number and the
+-- file.
+abbrev pub IsMoreUsage : ℕ → List (List ℕ) → ℕ → Type 0
+IsMoreUsage place [] m = ⊥
+IsMoreUsage place (word ∷ rest) m = m ≡ place + 1
 
-pub data IsFileUsage (file : List ℕ) (rest : List (List ℕ)) (m : ℕ) : Type 0 where
-  no_file : ((path : List ℕ) → NamesProgram file path → ⊥) → m ≡ 3 → IsFileUsage file rest m
-  after_file : (path : List ℕ) → NamesProgram file path → IsMoreUsage rest m → IsFileUsage file rest m
+pub data IsFileUsage (key : List ℕ) (place : ℕ) (file : List ℕ) (rest : List (List ℕ)) (m : ℕ) : Type 0 where
+  no_file : ((path : List ℕ) → NamesPath key file path → ⊥) → m ≡ place → IsFileUsage key place file rest m
+  after_file : (path : List ℕ) → NamesPath key file path → IsMoreUsage place rest m → IsFileUsage key place file rest m
 
-abbrev pub AreFileUsage : List (List ℕ) → ℕ → Type 0
-AreFileUsage [] m = m ≡ 3
-AreFileUsage (file ∷ rest) m = IsFileUsage file rest m
+abbrev pub AreFileUsage : List ℕ → ℕ → List (List ℕ) → ℕ → Type 0
+AreFileUsage key place [] m = m ≡ place
+AreFileUsage key place (file ∷ rest) m = IsFileUsage key place file rest m
 
-pub data IsNumberUsage (word : List ℕ) (rest : List (List ℕ)) (m : ℕ) : Type 0 where
-  no_number : ((n : ℕ) → NamesPiece word n → ⊥) → m ≡ 2 → IsNumberUsage word rest m
-  after_number : (n : ℕ) → NamesPiece word n → AreFileUsage rest m → IsNumberUsage word rest m
+pub data IsNumberUsage (key word : List ℕ) (rest : List (List ℕ)) (m : ℕ) : Type 0 where
+  no_number : ((n : ℕ) → NamesPart word n → ⊥) → m ≡ 2 → IsNumberUsage key word rest m
+  after_number : (n : ℕ) → NamesPart word n → AreFileUsage key 3 rest m → IsNumberUsage key word rest m
 
-abbrev pub HasPieceUsage : List (List ℕ) → ℕ → Type 0
-HasPieceUsage [] m = m ≡ 2
-HasPieceUsage (word ∷ rest) m = IsNumberUsage word rest m
+abbrev pub HasPartUsage : List ℕ → List (List ℕ) → ℕ → Type 0
+HasPartUsage key [] m = m ≡ 2
+HasPartUsage key (word ∷ rest) m = IsNumberUsage key word rest m
 
--- The answer to the words after `--piece`, if the file that they name holds this.
-pub data PieceQuestionAnswer (held : Option (List ℕ)) (rest : List (List ℕ)) (said : List ℕ) (status : Status) : Type 0 where
-  asked : (n : ℕ) (path : List ℕ) → IsPieceAsked rest n path → HeldPieceAnswer n held said status → PieceQuestionAnswer held rest said status
-  refused : (m : ℕ) → HasPieceUsage rest m → IsUsage m said status → PieceQuestionAnswer held rest said status
+-- The answer to words that are the number of a part and its file, if what is known of the part has this answer.
+pub data PartQuestionAnswer (key : List ℕ) (known : ℕ → List ℕ → Status → Type 0) (rest : List (List ℕ)) (said : List ℕ) (status : Status) : Type 0 where
+  asked : (n : ℕ) (path : List ℕ) → IsPartAsked key rest n path → known n said status → PartQuestionAnswer key known rest said status
+  refused : (m : ℕ) → HasPartUsage key rest m → IsUsage m said status → PartQuestionAnswer key known rest said status
+
+-- The answer to words that are a file alone, if what is known of the file has this answer.
+pub data WholeQuestionAnswer (key : List ℕ) (known : List ℕ → Status → Type 0) (rest : List (List ℕ)) (said : List ℕ) (status : Status) : Type 0 where
+  asked_whole : (path : List ℕ) → IsFileNamed key rest path → known said status → WholeQuestionAnswer key known rest said status
+  refused_whole : (m : ℕ) → AreFileUsage key 2 rest m → IsUsage m said status → WholeQuestionAnswer key known rest said status
+
+-- The answer to the words after the first, if the file that they name holds this.
+abbrev pub FileQuestionAnswer : FileQuestion → Option (List ℕ) → List (List ℕ) → List ℕ → Status → Type 0
+FileQuestionAnswer of_piece held rest said status = PartQuestionAnswer (file_key of_piece) (λ n. HeldPieceAnswer n held) rest said status
+FileQuestionAnswer of_line held rest said status = PartQuestionAnswer (file_key of_line) (λ n. HeldLineAnswer n held) rest said status
+FileQuestionAnswer of_board held rest said status = WholeQuestionAnswer (file_key of_board) (HeldCheckAnswer held) rest said status
 
 -- The answer to words, if the file that they name holds this. Words that are no question are refused at the first.
 pub data QuestionAnswer (held : Option (List ℕ)) (words : List (List ℕ)) (said : List ℕ) (status : Status) : Type 0 where
   of_word : (rest : List (List ℕ)) → words ≡ codes "--explain" ∷ rest → WordAnswer rest said status → QuestionAnswer held words said status
-  of_piece : (rest : List (List ℕ)) → words ≡ codes "--piece" ∷ rest → PieceQuestionAnswer held rest said status → QuestionAnswer held words said status
+  of_file : (question : FileQuestion) (rest : List (List ℕ)) → words ≡ question_word question ∷ rest → FileQuestionAnswer question held rest said status →
+      QuestionAnswer held words said status
   no_question : ask_question words ≡ false → IsUsage 1 said status → QuestionAnswer held words said status
+
+-- the words after the first name this file
+abbrev pub NamesQuestionFile : FileQuestion → List (List ℕ) → List ℕ → Type 0
+NamesQuestionFile of_piece rest path = (n : ℕ) × IsPartAsked (file_key of_piece) rest n path
+NamesQuestionFile of_line rest path = (n : ℕ) × IsPartAsked (file_key of_line) rest n path
+NamesQuestionFile of_board rest path = IsFileNamed (file_key of_board) rest path
 
 -- the words name this file
 pub record IsAskedOf (words : List (List ℕ)) (path : List ℕ) : Type 0 where
+  pub question : FileQuestion
   pub rest : List (List ℕ)
-  pub words_are : words ≡ codes "--piece" ∷ rest
-  pub number : ℕ
-  pub asked : IsPieceAsked rest number path
+  pub words_are : words ≡ question_word question ∷ rest
+  pub names : NamesQuestionFile question rest path

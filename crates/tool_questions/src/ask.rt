@@ -3,7 +3,7 @@ ghost use Rattle.std.specs.Prelude.{◌≡◌, map, string_bytes};
 ghost use Rattle.tool_io.specs.Lines.{IsWhole};
 ghost use Rattle.tool_frame.specs.Answers.{Says};
 ghost use Rattle.tool_questions.specs.Explanations.{word_paragraphs};
-ghost use Rattle.tool_questions.specs.Questions.{ask_question, IsUsage, IsExplained, WordAnswer};
+ghost use Rattle.tool_questions.specs.Questions.{is_question, ask_question, IsUsage, IsExplained, WordAnswer};
 
 use crate::explanations::{explanation, put_paragraphs};
 use named_files::put_usage;
@@ -63,12 +63,19 @@ pub(crate) fn answer_word<K: Sink>(
     }
 }
 
-/// Whether the words ask a question: the first of them is `--explain` or `--piece`.
+// Whether a word is the first of a question.
+fn is_question(word: &str) -> bool
+    ensures { result ≡ is_question word.now }
+{
+    word == "--explain" || word == "--piece" || word == "--line" || word == "--board"
+}
+
+/// Whether the words ask a question: the first of them is `--explain`, `--piece`, `--line` or `--board`.
 pub fn ask_question(words: &[String]) -> bool
     ensures { result ≡ ask_question (map string_bytes words.now) }
 {
     match words {
-        [first, ..] => first.as_str() == "--explain" || first.as_str() == "--piece",
+        [first, ..] => is_question(first.as_str()),
         [] => false,
     }
 }

@@ -65,7 +65,7 @@ spent, in a play: the turns were used up: the file waits without end, or needs m
 2, an exit code: a statement could not be played, E fault Fault at n. Do this: see --explain Fault and --piece n.
 3, an exit code: the turns were used up, E spent. Do this: see --explain spent.
 4, an exit code: the program is refused, R program p line n Reason. Do this: see --explain Reason and --piece p.
-5, an exit code: the board is refused, R board n Reason. Do this: see --explain Reason, and line n.
+5, an exit code: the board is refused, R board n Reason. Do this: see --explain Reason and --line n.
 6, an exit code: the words do not fit the file or the board, R action, R choice or R place. Do this: see --explain action, choice or place.
 7, an exit code: the words are not right, R usage n. Do this: see --explain usage, and the word n.
 8, an exit code: the code is refused, R code offset Reason. Do this: see --explain Reason.

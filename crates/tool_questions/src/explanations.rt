@@ -4,9 +4,10 @@ ghost use Rattle.std.specs.List.{flat_map, list_any};
 ghost use Rattle.tool_io.specs.Lines.{IsWhole, HasPut};
 ghost use Rattle.tool_io.specs.Texts.{word_line};
 ghost use Rattle.stapl_lexer.specs.Reasons.{reason_name};
-ghost use Rattle.tool_questions.specs.Explanations.{is_about, paragraphs, word_paragraphs, reason_paragraphs};
+ghost use Rattle.tool_questions.specs.Explanations.{is_about, paragraphs, word_paragraphs, reason_paragraphs, board_reason_paragraphs};
 
 use crate::explanation_texts::EXPLANATIONS;
+use board_text::BoardReason;
 use stapl_lexer::Reason;
 use std::alloc::{AllocError, Global};
 use tool_io::{Failed, Lines, Sink, put_word_line};
@@ -71,6 +72,17 @@ pub fn reason_explanation(alloc: Global, reason: Reason) -> Result<Vec<&'static 
     ensures { IfOk result (λ found. map (λ line. line.now) found.items ≡ reason_paragraphs reason) }
 {
     let head = joined(alloc, reason.name(), b", of a program:")?;
+    lines_with(alloc, &head)
+}
+
+/// What is said of a reason against a board. The only error is want of memory.
+pub fn board_reason_explanation(
+    alloc: Global,
+    reason: BoardReason,
+) -> Result<Vec<&'static str>, AllocError>
+    ensures { IfOk result (λ found. map (λ line. line.now) found.items ≡ board_reason_paragraphs reason) }
+{
+    let head = joined(alloc, reason.name(), b", of a board:")?;
     lines_with(alloc, &head)
 }
 

@@ -1,8 +1,11 @@
-//! Questions about what the tool says: `--explain` and a word, and `--piece`, a number and a program. A piece is shown
-//! with its line and its text, and if the program is refused there, with why and what to do.
+//! Questions about what the tool says: `--explain` and a word; `--piece`, a number and a program; `--line`, a number and
+//! a board; and `--board` and a board. A piece is shown with its line and its text, and if the program is refused there,
+//! with why and what to do; and so is a line of a board.
 #![tactic(auto)]
 
 mod ask;
+mod board;
+mod board_lines;
 mod explanation_texts;
 mod explanations;
 pub mod laws;

@@ -1,14 +1,17 @@
 //! The answer to a question about a piece of a program.
-ghost use Rattle.std.specs.Prelude.{◌≡◌, ◌≤◌, None, Some, map, length, IfSome, IfOk};
+ghost use Rattle.std.specs.Prelude.{◌≡◌, ◌≤◌, None, Some, map, length, string_bytes, IfSome, IfOk};
 ghost use Rattle.tool_io.specs.Lines.{IsWhole, IsSilent};
 ghost use Rattle.tool_frame.specs.Answers.{Says};
-ghost use Rattle.tool_frame.specs.Files.{OfFile, KeepsShelf};
+ghost use Rattle.tool_frame.specs.Files.{OfFile, OfFiles, NamesOne, first_of, KeepsShelf};
 ghost use Rattle.stapl_lexer.specs.Pieces.{LiesIn, text_limit};
 ghost use Rattle.tool_questions.specs.Pieces.{why_refused, IsReport, PieceAnswer, IsLongAnswer, HeldPieceAnswer};
+ghost use Rattle.tool_questions.specs.Questions.{of_piece, FileQuestionAnswer, NamesQuestionFile};
 
+use crate::ask::refuse;
 use crate::explanations::reason_explanation;
 use crate::lines::{Shown, put_refused, put_shown};
 use crate::report::{PieceReport, Refusal, report_of};
+use crate::words::part_asked;
 use named_files::put_usage;
 use play_words::Status;
 use stapl_lexer::{Reason, TEXT_LIMIT};
@@ -115,14 +118,8 @@ fn answer_long<K: Sink>(alloc: Global, lines: &mut Lines<K>) -> Result<Status, N
     Ok(Status::Done(0))
 }
 
-/// Says what is known of the piece with this number, counted from 1, of the program in a file, which may be any bytes:
-/// its line and its text, and if the program is refused there, the line of the refusal and what is said of the reason.
-/// If the program is refused at its end, that is at the number after its last piece; a program that is too long is
-/// refused whatever the number. If there is no such piece, the second word of the command is refused.
-///
-/// `Read` comes only if the count of the file rose, or stands at its last value; `Write` as of the sink; `Memory` is
-/// want of memory, and then nothing has reached the sink.
-pub(crate) fn answer_piece<S: Shelf, K: Sink>(
+// Says what is known of the piece with this number, counted from 1, of the program in a file, which may be any bytes.
+fn answer_piece<S: Shelf, K: Sink>(
     alloc: Global,
     path: &str,
     number: u32,
@@ -139,5 +136,30 @@ pub(crate) fn answer_piece<S: Shelf, K: Sink>(
         Err(ReadRefused::TooLong) => answer_long(alloc, lines),
         Err(ReadRefused::ReadFault) => Err(NoAnswer::Read),
         Err(ReadRefused::Memory) => Err(NoAnswer::Memory),
+    }
+}
+
+/// Answers the words after `--piece`: its number, counted from 1, and the file of its program, which may hold any bytes.
+/// It says the line and the text of the piece, and if the program is refused there, the line of the refusal and what is
+/// said of its reason. If the program is refused at its end, that is at the number after its last piece; a program that
+/// is too long is refused whatever the number. If there is no such piece, the second word of the command is refused.
+///
+/// `Read` comes only if the count of the file rose, or stands at its last value; `Write` as of the sink; `Memory` is
+/// want of memory, and then nothing has reached the sink.
+pub(crate) fn ask_piece<S: Shelf, K: Sink>(
+    alloc: Global,
+    rest: &[String],
+    shelf: &mut S,
+    lines: &mut Lines<K>,
+) -> Result<Status, NoAnswer>
+    requires { IsWhole lines.old }
+    ensures says { OfFiles (NamesOne (NamesQuestionFile of_piece (map string_bytes rest.now))) (S.told shelf.old) (λ contents.
+        Says K.Sink (FileQuestionAnswer of_piece (first_of contents) (map string_bytes rest.now)) (IsSilent lines.old lines.new)
+        lines.old lines.new result) }
+    ensures shelf { KeepsShelf S.Shelf (NamesQuestionFile of_piece (map string_bytes rest.now)) shelf.old shelf.new result }
+{
+    match part_asked(rest, "program=") {
+        Ok(asked) => answer_piece(alloc, asked.path, asked.number, shelf, lines),
+        Err(n) => refuse(n, lines),
     }
 }

@@ -9,8 +9,9 @@ ghost use Rattle.tool_questions.specs.Questions.{QuestionAnswer, IsAskedOf};
 ghost use Rattle.tool_questions.specs.Statuses.{answer_code};
 
 use crate::ask::{answer_word, refuse};
-use crate::piece::answer_piece;
-use crate::words::{piece_asked, words_after};
+use crate::board::{ask_board, ask_line};
+use crate::piece::ask_piece;
+use crate::words::words_after;
 use play_words::{HELP, Status, VERSION};
 use std::alloc::Global;
 use tool_frame::{NoAnswer, Tool};
@@ -18,8 +19,10 @@ use tool_io::{Lines, Shelf, Sink};
 
 /// Answers questions: `--explain WORD` is answered by what is said of a reason, a fault, an exit code or a statement;
 /// `--piece N program=PATH` by the line and the text of the piece N of the program, counted from 1, and if the program
-/// is refused there, by the line of the refusal and what is said of its reason. Words after these two are refused at
-/// the first that is not as stated, and words that are no question at the first.
+/// is refused there, by the line of the refusal and what is said of its reason; `--line N board=PATH` by the text of the
+/// line N of the board, and if the board is refused there, by the refusal and what is said of its reason; `--board
+/// board=PATH` by the number of devices of the board, or as `--line` for its first faulty line. Words after these are
+/// refused at the first that is not as stated, and words that are no question at the first.
 ///
 /// All memory is taken before the first byte is put.
 pub struct Questioner;
@@ -68,13 +71,16 @@ impl Tool for Questioner {
         if let Some(rest) = words_after("--explain", words) {
             return answer_word(alloc, rest, lines);
         }
-        let Some(rest) = words_after("--piece", words) else {
-            return refuse(1, lines);
-        };
-        match piece_asked(rest) {
-            Ok(asked) => answer_piece(alloc, asked.path, asked.number, shelf, lines),
-            Err(n) => refuse(n, lines),
+        if let Some(rest) = words_after("--piece", words) {
+            return ask_piece(alloc, rest, shelf, lines);
         }
+        if let Some(rest) = words_after("--line", words) {
+            return ask_line(alloc, rest, shelf, lines);
+        }
+        if let Some(rest) = words_after("--board", words) {
+            return ask_board(alloc, rest, shelf, lines);
+        }
+        refuse(1, lines)
     }
 
     ghost leaves_at_write_fault = { λ words contents before after ending left. left };

@@ -1,7 +1,8 @@
 //! What is known of a piece.
 ghost use Rattle.std.specs.Prelude.{◌≡◌, ◌≤◌, length, IfOk, IfSome};
 ghost use Rattle.stapl_lexer.specs.Pieces.{LiesIn, text_limit};
-ghost use Rattle.tool_questions.specs.Pieces.{piece_numbered, RefusalAt, IsReport};
+ghost use Rattle.tool_questions.specs.Numbers.{part_numbered};
+ghost use Rattle.tool_questions.specs.Pieces.{RefusalAt, IsReport};
 
 use stapl_checker::{CheckRefused, check};
 use stapl_lexer::{Piece, Reason, cut};
@@ -25,7 +26,7 @@ pub(crate) struct PieceReport {
 
 // The piece with this number, counted from 1.
 fn piece_numbered(pieces: &[Piece], number: u32) -> Option<Piece>
-    ensures { result ≡ piece_numbered number pieces.now }
+    ensures { result ≡ part_numbered number pieces.now }
 {
     if number == 0 {
         return None;

@@ -1,7 +1,7 @@
 use Rattle.std.proofs.Common.{string_bytes, Global, refl}
 use Rattle.tool_questions.specs.Questions.{no_number, after_number}
 use Rattle.tool_questions.proofs.WordLemmas.{after_first}
-use Rattle.tool_questions.proofs.words.piece_asked.Goals as goal
+use Rattle.tool_questions.proofs.words.part_asked.Goals as goal
 
 pub returns-in_default-number_under-clause-usage : goal.returns-in_default-number_under-clause-usage
 returns-in_default-number_under-clause-usage c =

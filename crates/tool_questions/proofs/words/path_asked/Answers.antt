@@ -12,4 +12,4 @@ pub returns-then-not-is_empty-clause-usage : goal.returns-then-not-is_empty-clau
 returns-then-not-is_empty-clause-usage c =
     rw (after_first (string_bytes {Z = Global}) c.args.rest.now c.file-item.result c.in-len1-up.len_at_least c.file-item.is)
     (after_file c.in-Some.path.now (rw c.as_str.ensures.value at c.in-Some.ensures.some)
-    (some_more (string_bytes {Z = Global}) _ c.is_empty.result c.is_empty.ensures c.if-not-is_empty.true))
+    (some_more (string_bytes {Z = Global}) c.args.place _ c.is_empty.result c.is_empty.ensures c.if-not-is_empty.true))
