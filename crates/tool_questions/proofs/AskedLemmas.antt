@@ -2,11 +2,10 @@
 use Rattle.std.proofs.Common.{◌≡◌, ◌∙◌, ◌+◌, ℕ, List, [], ◌∷◌, Option, sym, subst}
 use Rattle.std.specs.Prelude.{Result}
 use Rattle.tool_io.specs.declared.outside.Shelf.{Ghosts as ShelfOf}
-use Rattle.command_words.specs.KeyedWords.{NamesPath}
 use Rattle.command_words.proofs.ValueLemmas.{one_path, one_number}
 use Rattle.tool_frame.specs.declared.no_answer.NoAnswer.{NoAnswer}
 use Rattle.tool_frame.specs.Files.{OfFiles, NamesOne, KeepsShelf}
-use Rattle.tool_questions.specs.Questions.{FileQuestion, question_word, NamesPart, IsFileNamed, IsPartAsked, IsMoreUsage, IsFileUsage, no_file, after_file, AreFileUsage, IsNumberUsage, no_number, after_number, HasPartUsage, NamesQuestionFile, IsAskedOf}
+use Rattle.tool_questions.specs.Questions.{FileQuestion, question_word, IsFileNamed, IsPartAsked, IsMoreUsage, IsFileUsage, no_file, after_file, AreFileUsage, IsNumberUsage, no_number, after_number, HasPartUsage, NamesQuestionFile, IsAskedOf}
 use Rattle.tool_questions.proofs.WordLemmas.{same_rest, same_question}
 
 module _ (key : List ℕ) where

@@ -1,14 +1,12 @@
 -- A line of a board, and a board alone, have an answer: each text is a board, or has a first fault.
-use Rattle.std.proofs.Common.{◌≡◌, ◌<◌, ◌≤◌, ◌++◌, ℕ, pos, List, length, codes, Option, Some, None, refl, ap, subst, ◌⊎◌, inl, inr}
+use Rattle.std.proofs.Common.{◌≡◌, ◌<◌, ◌≤◌, ◌++◌, ℕ, pos, List, length, Option, Some, None, refl, subst, ◌⊎◌, inl, inr}
 use Rattle.std.proofs.lemmas.Bool.{cases_lt, cases_eq}
-use Rattle.dev_card.specs.declared.desc.Desc.{Desc}
 use Rattle.board_text.specs.declared.reason.BoardReason.{BoardReason}
 use Rattle.board_text.specs.declared.reason.BoardReason.TheVariants.{TooLong}
-use Rattle.board_text.specs.Boards.{most_bytes, IsBoard, IsFirstFault}
+use Rattle.board_text.specs.Boards.{most_bytes, IsFirstFault}
 use Rattle.board_text.proofs.OneAnswer.{no_board_has_a_fault}
 use Rattle.board_text.proofs.EveryText.{HasAnswer, every_text}
 use Rattle.named_files.specs.Texts.{usage_line}
-use Rattle.play_words.specs.declared.status.Status.{Status}
 use Rattle.play_words.specs.declared.status.Status.TheVariants.{Done, Usage}
 use Rattle.tool_questions.specs.BoardLines.{numbered_line, FaultAt, fault_text, line_text, KnownLineAnswer, shown, ended, lacking, too_long, LineAnswer, known, long, devices_line, CheckAnswer, good, faulty}
 use Rattle.tool_questions.proofs.Said.{IsAnswered}

@@ -1,5 +1,5 @@
 -- Words have at most one answer: a text has one list of pieces and one first fault, and words say one thing.
-use Rattle.std.proofs.Common.{◌≡◌, ℕ, pos, List, [], ◌∷◌, length, Option, Some, None, refl, sym, ap, ◌∙◌, subst, arith, codes}
+use Rattle.std.proofs.Common.{◌≡◌, ℕ, pos, List, [], ◌∷◌, Option, Some, None, refl, sym, ap, ◌∙◌, subst, arith, codes}
 use Rattle.stapl_lexer.specs.declared.piece.Piece.{Piece}
 use Rattle.stapl_lexer.proofs.PieceLemmas.{cut_one_way}
 use Rattle.stapl_checker.proofs.UniqueLemmas.{one_first_fault}

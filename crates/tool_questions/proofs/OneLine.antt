@@ -1,6 +1,5 @@
 -- A line of a board, and a board alone, have at most one answer.
-use Rattle.std.proofs.Common.{◌≡◌, ◌++◌, ℕ, pos, List, length, codes, Option, Some, None, refl, sym, ap, ◌∙◌, subst, arith}
-use Rattle.dev_card.specs.declared.desc.Desc.{Desc}
+use Rattle.std.proofs.Common.{◌≡◌, ◌++◌, ℕ, pos, List, Option, Some, None, refl, sym, ap, ◌∙◌, subst, arith}
 use Rattle.board_text.specs.declared.reason.BoardReason.{BoardReason}
 use Rattle.board_text.proofs.OneAnswer.{one_board, one_first_fault, no_board_has_a_fault}
 use Rattle.named_files.specs.Texts.{usage_line}

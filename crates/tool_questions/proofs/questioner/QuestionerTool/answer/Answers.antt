@@ -1,4 +1,4 @@
-use Rattle.std.proofs.Common.{◌≡◌, ℕ, false, List, map, codes, string_bytes, Global}
+use Rattle.std.proofs.Common.{◌≡◌, ℕ, false, List, map, string_bytes, Global}
 use Rattle.tool_frame.proofs.AnswerLemmas.{says_within}
 use Rattle.tool_frame.proofs.FileLemmas.{of_no_file}
 use Rattle.tool_questions.specs.Questions.{ask_question, of_piece, of_line, of_board, IsAskedOf, of_word, of_file, no_question}
