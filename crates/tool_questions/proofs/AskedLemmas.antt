@@ -1,5 +1,5 @@
 -- On the words of questions about a file: they name one file and one number, or have one word that is not as stated.
-use Rattle.std.proofs.Common.{◌≡◌, ◌∙◌, ◌+◌, ℕ, List, [], ◌∷◌, Option, sym, subst}
+use Rattle.std.proofs.Common.{◌≡◌, ◌∙◌, ℕ, List, [], ◌∷◌, Option, sym, subst}
 use Rattle.std.specs.Prelude.{Result}
 use Rattle.tool_io.specs.declared.outside.Shelf.{Ghosts as ShelfOf}
 use Rattle.command_words.proofs.ValueLemmas.{one_path, one_number}

@@ -1,5 +1,5 @@
 -- On the lines of a board, and its first fault.
-use Rattle.std.proofs.Common.{◌≡◌, ◌≢◌, ◌<◌, ◌-◌, ℕ, zero, suc, List, [], ◌∷◌, slice_get, Option, Some, None, IsSomeAnd, Result, length, refl, ap, arith, inl}
+use Rattle.std.proofs.Common.{◌≡◌, ◌≢◌, ◌<◌, ◌-◌, ℕ, zero, suc, List, ◌∷◌, slice_get, Option, Some, None, IsSomeAnd, Result, length, refl, ap, arith, inl}
 use Rattle.tool_io.specs.declared.lines.Lines.{Lines}
 use Rattle.tool_io.specs.declared.outside.Sink.{Ghosts as SinkOf}
 use Rattle.tool_io.specs.Lines.{IsSilent}

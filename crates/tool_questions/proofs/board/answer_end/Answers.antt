@@ -1,4 +1,4 @@
-use Rattle.std.proofs.Common.{◌≡◌, None, Some, pos, subst}
+use Rattle.std.proofs.Common.{None, Some, pos, subst}
 use Rattle.named_files.specs.Texts.{usage_line}
 use Rattle.play_words.specs.declared.status.Status.TheVariants.{Done, Usage}
 use Rattle.tool_frame.proofs.AnswerLemmas.{says_failed, said_text, said_front}

@@ -1,4 +1,4 @@
-use Rattle.std.proofs.Common.{◌≡◌, ◌∷◌, ◌-◌, ◌∙◌, List, ℕ, drop, slice_get, sym, ap}
+use Rattle.std.proofs.Common.{◌-◌, ◌∙◌, List, ℕ, drop, slice_get, sym, ap}
 use Rattle.std.specs.Str.Lines.{lines}
 use Rattle.std.proofs.lemmas.List.{take_rest}
 use Rattle.tool_questions.proofs.LineLemmas.{later_line}
