@@ -34,8 +34,9 @@ fn put_verdict<K: Sink>(
     requires devices { CanBeFitted task.now.devices.now }
     requires rack { IsRack (map kind_of rack.old.items) }
     requires whole { IsWhole lines.old }
-    ensures { Says K.Sink (ActionAnswer program.now.text (trees_of program.now) task.now.request.now
+    ensures says { Says K.Sink (ActionAnswer program.now.text (trees_of program.now) task.now.request.now
         task.now.devices.now) ⊥ lines.old lines.new result }
+    ensures kinds { map kind_of rack.new.items ≡ map kind_of rack.old.items }
 {
     let answer = answer_program(alloc, task, program, rack)?;
     lines.put(&answer.text)?;
@@ -58,6 +59,7 @@ fn answer_file<S: Shelf, K: Sink>(
         (HeldAnswer task.now.request.now task.now.devices.now held) (IsSilent lines.old lines.new)
         lines.old lines.new result) }
     ensures shelf { KeepsShelf S.Shelf (λ read. read ≡ path.now) shelf.old shelf.new result }
+    ensures kinds { map kind_of rack.new.items ≡ map kind_of rack.old.items }
 {
     match program_named(alloc, shelf, path) {
         Ok(program) => put_verdict(alloc, task, &program, rack, lines),
@@ -79,7 +81,7 @@ fn answer_file<S: Shelf, K: Sink>(
 /// Answers about a play: by its board, which is read first, and then by its program.
 ///
 /// `Read` comes only if the count of a file rose that was reached, `Write` only if that of the sink did; `Memory` is
-/// want of memory. At `Read` and `Memory` nothing has reached the sink.
+/// want of memory. At `Read` and `Memory` nothing has reached the sink. Each device of the rack keeps its kind.
 pub(crate) fn answer_play<S: Shelf, K: Sink>(
     alloc: Global,
     play: &FilePlay,
@@ -93,6 +95,7 @@ pub(crate) fn answer_play<S: Shelf, K: Sink>(
         (RequestAnswer play.now.request contents) (IsSilent lines.old lines.new) lines.old lines.new result) }
     ensures shelf { KeepsShelf S.Shelf (IsPlayFile (S.told shelf.old) play.now)
         shelf.old shelf.new result }
+    ensures kinds { map kind_of rack.new.items ≡ map kind_of rack.old.items }
 {
     match board_named(alloc, shelf, play.board.as_str()) {
         Ok(devices) => {

@@ -23,7 +23,8 @@ use tool_io::{Lines, Shelf, Sink};
 /// Says whether the play that the words ask for is quiet on its devices alone: those of the place that they name, or
 /// all of the board. They are the words of a play by the tool, after the word `play`. If the play is quiet for its
 /// turns, a line says for how many, and one how it ends; else a line names the first deed that is not quiet. What is
-/// refused is told as by a play. The devices of the rack are fitted anew for each play that is made.
+/// refused is told as by a play. The devices of the rack are fitted anew for each play that is made, and each keeps its
+/// kind.
 ///
 /// All memory is taken before the first byte is put. There is none, too, if a scan has 2 ^ 64 bits or more.
 pub struct QuietJudge;
@@ -41,7 +42,8 @@ impl Tool for QuietJudge {
 
     ghost answers = { λ words contents. PromisedAnswer words contents };
 
-    ghost leaves = { λ _ _ _ _ _. Unit {0} };
+    ghost leaves = { λ words contents before after result. map (λ b. (Device-box b).kind_of b.value) after.items
+        ≡ map (λ b. (Device-box b).kind_of b.value) before.items };
 
     ghost exit_code_of = { exit_code_of };
 

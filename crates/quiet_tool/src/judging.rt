@@ -101,9 +101,10 @@ fn judge_chosen(
     requires placed { has_place task.now.request.now.place task.now.devices.now ≡ true }
     requires devices { CanBeFitted task.now.devices.now }
     requires rack { IsRack (map kind_of rack.old.items) }
-    ensures { IfOk result (λ answer. VerdictAnswer program.now.text (as_played (trees_of program.now)) chosen.now
+    ensures answer { IfOk result (λ answer. VerdictAnswer program.now.text (as_played (trees_of program.now)) chosen.now
         task.now.request.now.turns (run_of task.now.request.now.place task.now.devices.now)
         answer.text.items answer.status) }
+    ensures kinds { map kind_of rack.new.items ≡ map kind_of rack.old.items }
 {
     let turns = task.request.turns;
     let run = run_of(task);
@@ -133,8 +134,9 @@ fn answer_code(
     requires code { IsCodeOf (as_played (trees_of program.now)) code.now }
     requires devices { CanBeFitted task.now.devices.now }
     requires rack { IsRack (map kind_of rack.old.items) }
-    ensures { IfOk result (λ answer. ActionAnswer program.now.text (trees_of program.now)
+    ensures answer { IfOk result (λ answer. ActionAnswer program.now.text (trees_of program.now)
         task.now.request.now task.now.devices.now answer.text.items answer.status) }
+    ensures kinds { map kind_of rack.new.items ≡ map kind_of rack.old.items }
 {
     programs_are_typed();
     match choose_asked(alloc, code, task.request) {
@@ -148,7 +150,7 @@ fn answer_code(
 
 /// The answer for a program: the verdict on the play that a task asks for.
 ///
-/// `AllocError` comes for want of memory, or if a scan has 2 ^ 64 bits or more.
+/// `AllocError` comes for want of memory, or if a scan has 2 ^ 64 bits or more. Each device of the rack keeps its kind.
 pub(crate) fn answer_program(
     alloc: Global,
     task: &Task,
@@ -158,8 +160,9 @@ pub(crate) fn answer_program(
     requires program { IsProgram program.now.text (trees_of program.now) }
     requires devices { CanBeFitted task.now.devices.now }
     requires rack { IsRack (map kind_of rack.old.items) }
-    ensures { IfOk result (λ answer. ActionAnswer program.now.text (trees_of program.now)
+    ensures answer { IfOk result (λ answer. ActionAnswer program.now.text (trees_of program.now)
         task.now.request.now task.now.devices.now answer.text.items answer.status) }
+    ensures kinds { map kind_of rack.new.items ≡ map kind_of rack.old.items }
 {
     let code = generate(alloc, program)?;
     let answer = answer_code(alloc, task, program, &code, rack)?;

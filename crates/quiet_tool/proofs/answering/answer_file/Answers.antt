@@ -9,7 +9,7 @@ use Rattle.quiet_tool.proofs.answering.answer_file.Goals as goal
 pub returns-in-Ok-clause-says : goal.returns-in-Ok-clause-says
 returns-in-Ok-clause-says g c =
     of_text (g.S.Shelf.told c.args.shelf.now) c.args.path.now _ c.in-Ok.ensures.text
-    (says_within _ _ _ _ _ c.put_verdict.result (program_in_text c.args.task.now.request.now c.args.task.now.devices.now _ _ c.in-Ok.ensures.program) (λ none. absurd none) c.put_verdict.ensures)
+    (says_within _ _ _ _ _ c.put_verdict.result (program_in_text c.args.task.now.request.now c.args.task.now.devices.now _ _ c.in-Ok.ensures.program) (λ none. absurd none) c.put_verdict.ensures.says)
 
 pub returns-in_err-put_refusal-in-Err-Refused-clause-says : goal.returns-in_err-put_refusal-in-Err-Refused-clause-says
 returns-in_err-put_refusal-in-Err-Refused-clause-says g c =

@@ -5,17 +5,17 @@ use Rattle.quiet_tool.specs.Answers.{no_action, bad_choice, bad_place, judged}
 use Rattle.quiet_tool.proofs.AnswerLemmas.{answer_is, choice_in_program}
 use Rattle.quiet_tool.proofs.judging.answer_code.Goals as goal
 
-pub returns-in-Ok : goal.returns-in-Ok
-returns-in-Ok g c =
+pub returns-in-Ok-clause-answer : goal.returns-in-Ok-clause-answer
+returns-in-Ok-clause-answer g c =
     on_ok c.judge_chosen.result
     (λ answer v.
     judged c.deref.result.now answer.text.items answer.status
     (choice_in_program c.args.task.now.request.now c.programs_are_typed.ensures c.requires.program c.requires.code (c.in-Ok.ensures.ok ∙ ap chosen (sym c.deref.ensures.value)))
     (sym c.has_place.ensures ∙ c.if-has_place.true) v)
-    c.judge_chosen.ensures
+    c.judge_chosen.ensures.answer
 
-pub returns-in-Ok-2 : goal.returns-in-Ok-2
-returns-in-Ok-2 g c =
+pub returns-in-Ok-2-clause-answer : goal.returns-in-Ok-2-clause-answer
+returns-in-Ok-2-clause-answer g c =
     on_ok c.refuse.result
     (λ answer same.
     answer_is same.0 same.1
@@ -23,8 +23,8 @@ returns-in-Ok-2 g c =
     (sym c.has_place.ensures ∙ c.if-has_place.false)))
     c.refuse.ensures
 
-pub returns-in-Err-NoAction : goal.returns-in-Err-NoAction
-returns-in-Err-NoAction g c =
+pub returns-in-Err-NoAction-clause-answer : goal.returns-in-Err-NoAction-clause-answer
+returns-in-Err-NoAction-clause-answer g c =
     on_ok c.refuse-in-Err-NoAction.result
     (λ answer same.
     answer_is same.0 same.1
@@ -32,8 +32,8 @@ returns-in-Err-NoAction g c =
     (c.in-Err-NoAction.ensures.action (ap Err c.in-Err-NoAction.field-0-is)))))
     c.refuse-in-Err-NoAction.ensures
 
-pub returns-in-Err-BadChoice : goal.returns-in-Err-BadChoice
-returns-in-Err-BadChoice g c =
+pub returns-in-Err-BadChoice-clause-answer : goal.returns-in-Err-BadChoice-clause-answer
+returns-in-Err-BadChoice-clause-answer g c =
     on_ok c.refuse-in-Err-BadChoice.result
     (λ answer same.
     answer_is same.0 same.1

@@ -15,7 +15,7 @@ returns-in-Ok-clause-answers g c =
     of_request (g.S.Shelf.told c.args.shelf.now) asks c.answer_play.ensures.says (λ contents says. record {
       says = says_within _ _ _ _ _ c.answer_play.result
           (record { to = λ text status a. (promised _ contents).to text status ((request_in_words c.in-Ok.play contents asks).to text status a) }) (λ same. same) says;
-      left = tt;
+      left = c.answer_play.ensures.kinds;
     })
 
 pub returns-in-Ok-clause-shelf : goal.returns-in-Ok-clause-shelf
@@ -32,7 +32,7 @@ returns-in_err-put_usage-in-Err-Usage-clause-answers g c =
     of_no_request (g.S.Shelf.told c.args.shelf.now) (no_request words _ refused) (λ contents. record {
       says = says_failed _ _ _ _ _ c.from_residual.result c.from_residual.ensures.1
           (said_front _ (Usage _) ((promised words contents).to _ (Usage _) (usage _ (usage_is (sym c.in-Err-Usage.n-is) refused))) c.in_err-put_usage-in-Err-Usage.ensures);
-      left = tt;
+      left = refl;
     })
 
 pub returns-in_ok-put_usage-in-Err-Usage-clause-answers : goal.returns-in_ok-put_usage-in-Err-Usage-clause-answers
@@ -41,9 +41,9 @@ returns-in_ok-put_usage-in-Err-Usage-clause-answers g c =
     let refused : HasUsage words c.in-Err-Usage.n = subst (AreRefused words) c.in-Err-Usage.field-0-is c.in-Err-Usage.ensures.refused in
     of_no_request (g.S.Shelf.told c.args.shelf.now) (no_request words _ refused) (λ contents. record {
       says = said_text _ ((promised words contents).to _ (Usage _) (usage _ (usage_is (sym c.in-Err-Usage.n-is) refused))) c.in_ok-put_usage-in-Err-Usage.ensures;
-      left = tt;
+      left = refl;
     })
 
 pub returns-in-Err-Memory-clause-answers : goal.returns-in-Err-Memory-clause-answers
 returns-in-Err-Memory-clause-answers g c =
-    of_any_words (g.S.Shelf.told c.args.shelf.now) (play_words (map (string_bytes {Z = Global}) c.args.words.now)) (λ contents. record { says = (refl, refl); left = tt })
+    of_any_words (g.S.Shelf.told c.args.shelf.now) (play_words (map (string_bytes {Z = Global}) c.args.words.now)) (λ contents. record { says = (refl, refl); left = refl })
