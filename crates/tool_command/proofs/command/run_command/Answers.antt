@@ -8,6 +8,7 @@ use Rattle.tool_frame.specs.declared.no_answer.NoAnswer.TheVariants.{Read, Write
 use Rattle.play_words.specs.declared.mode.Mode.TheVariants as modes
 use Rattle.play_words.specs.Words.{mode_of}
 use Rattle.play_tool.specs.Answers.{WordsAnswer}
+use Rattle.play_tool.specs.Traced.{played_from}
 use Rattle.play_tool.proofs.RequestLemmas.{of_any_words}
 use Rattle.tool_questions.specs.Statuses.{question_status}
 use Rattle.tool_frame.specs.Commands.{text_asked, shown}
@@ -27,6 +28,7 @@ returns-in-Ok-clause-answer g c = λ _ _.
       leaves = λ playing. absurd (has_no_mode words c.in-Some.text.now (mode_of playing.request) text playing.asked.mode);
       alone = λ q. absurd (has_no_mode words c.in-Some.text.now modes.Play text q.asked.mode);
       compiled = λ q. absurd (has_no_mode words c.in-Some.text.now modes.Run text q.asked.mode);
+      traced = λ q. absurd (has_no_mode words c.in-Some.text.now (mode_of (played_from q.source q.play)) text q.asked.mode);
     })
 
 pub returns-in-Err-clause-write : goal.returns-in-Err-clause-write
@@ -51,6 +53,7 @@ returns-in-None-clause-answer g c = λ works _.
       leaves = a.leaves;
       alone = a.alone;
       compiled = a.compiled;
+      traced = a.traced;
     }) (c.run_tool.ensures.answer works)
 
 pub returns-in-None-clause-write : goal.returns-in-None-clause-write
