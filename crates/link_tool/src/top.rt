@@ -147,8 +147,8 @@ pub fn run_link<S: Shelf, K: Sink>(
     // After want of memory nothing is written.
     ensures memory { result ≡ LinkStatus.Memory → K.written out.new ≡ K.written out.old }
 
-    // Whatever is answered, only files that the words name are opened, each at most once, and the board first. The files
-    // stay, and no count falls.
+    // Whatever is answered, only files that the words name are opened, each at most once, and the board first. The
+    // files stay, and no count falls.
     ensures once { PicksByWords link_key (map string_bytes words.now) (S.picks shelf.old) (S.picks shelf.new) }
     ensures keeps { S.told shelf.new ≡ S.told shelf.old }
     ensures later { NoneFalls S.faults S.is_last shelf.old shelf.new }
