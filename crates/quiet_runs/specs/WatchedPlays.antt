@@ -14,6 +14,11 @@ use Rattle.written_cable.specs.Signals.{signals_of}
 use Rattle.quiet_watch.specs.declared.watch.Watch.{Watch}
 use Rattle.quiet_watch.specs.WatchedDevices.{HasFollowed, watch_breakage}
 
+-- A play may begin: the machine is prepared for the code, which has the chosen procedures.
+pub record CanBegin (code : CodeLists) (chosen : List ℕ) (machine : Machine) : Type 0 where
+  pub prepared : IsPrepared code machine
+  pub below : AllBelow (length code.procedures) chosen
+
 -- A play over a watch may begin: the machine is prepared for the code, which has the chosen procedures, and the watch is
 -- not broken.
 pub record CanWatch {D : Type 0} (fitted : D → Option SoundCard) (kind_of : D → Kind) (code : CodeLists) (chosen : List ℕ) (machine : Machine) (watch : Watch D) : Type 0 where

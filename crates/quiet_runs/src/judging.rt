@@ -6,12 +6,11 @@ ghost use Rattle.board_text.specs.Boards.{CanBeFitted};
 ghost use Rattle.chain_sim.specs.Places.{cards_at, is_chain};
 ghost use Rattle.chain_sim.specs.Rack.{IsRack};
 ghost use Rattle.stapl_code.specs.Safe.{AllBelow};
-ghost use Rattle.stapl_machine.specs.Machines.{IsPrepared};
 ghost use Rattle.padded_plays.specs.PaddedRuns.{fresh_board};
 ghost use Rattle.quiet_watch.specs.HeardPlays.{new_watch};
 ghost use Rattle.quiet_runs.specs.Verdicts.{JudgesCode};
 ghost use Rattle.quiet_watch.specs.WatchedDevices.{watched_of, devices_of, IsOverSame};
-ghost use Rattle.quiet_runs.specs.WatchedPlays.{CanWatch};
+ghost use Rattle.quiet_runs.specs.WatchedPlays.{CanBegin, CanWatch};
 
 use crate::watching::watch_play;
 use chain_sim::fit_board;
@@ -64,8 +63,7 @@ fn judge_on(
     descs: &[Desc],
     turns: u32,
 ) -> Result<Judged, AllocError>
-    requires prepared { IsPrepared code.now machine.old }
-    requires below { AllBelow (length code.now.procedures) chosen.now }
+    requires ready { CanBegin code.now chosen.now machine.old }
     requires chain { IsTrue (is_chain (map fitted rack.old.items) places.now) }
     requires cards { cards_at (map fitted rack.old.items) places.now ≡ Some (map fresh descs.now) }
     ensures judged { IfOk result (JudgesCode code.now chosen.now turns descs.now) }

@@ -8,11 +8,12 @@ ghost use Rattle.chain_sim.specs.Chains.{IsOverSame as IsSameRack};
 ghost use Rattle.chain_sim.specs.Places.{cards_at, is_chain};
 ghost use Rattle.chain_sim.specs.Rack.{IsRack};
 ghost use Rattle.stapl_code.specs.Safe.{AllBelow};
-ghost use Rattle.stapl_machine.specs.Machines.{play_of, IsPrepared};
+ghost use Rattle.stapl_machine.specs.Machines.{play_of};
 ghost use Rattle.stapl_machine.specs.Turns.{piece_of};
 ghost use Rattle.padded_plays.specs.QuietPlays.{no_base};
 ghost use Rattle.quiet_places.specs.Places.{GoesOnTold};
 ghost use Rattle.quiet_runs.specs.Verdicts.{GoesOnAlone, TellsPiece};
+ghost use Rattle.quiet_runs.specs.WatchedPlays.{CanBegin};
 
 use crate::silence::Silence;
 use base::Steps;
@@ -39,8 +40,7 @@ fn place_counted<C: Cable, L: Ledger>(
     requires name { blank.name ≡ L.name }
     requires parts { blank.parts ≡ L.parts }
     requires some { 0 < L.parts }
-    requires prepared { IsPrepared code.now machine }
-    requires below { AllBelow (length code.now.procedures) chosen.now }
+    requires ready { CanBegin code.now chosen.now machine }
     requires whole { C.breakage cable.old ≡ whole }
     ensures place { IfOk result (λ found. IfSome found (GoesOnTold C.board no_base
         (play_of code.now chosen.now turns) cable.old)) }
@@ -70,8 +70,7 @@ fn place_over(
     descs: &[Desc],
     turns: u32,
 ) -> Result<Option<u32>, Trouble>
-    requires prepared { IsPrepared code.now machine }
-    requires below { AllBelow (length code.now.procedures) chosen.now }
+    requires ready { CanBegin code.now chosen.now machine }
     requires chain { IsTrue (is_chain (map fitted (devices_of chain.old)) (chain_places chain.old)) }
     requires cards { cards_at (map fitted (devices_of chain.old)) (chain_places chain.old)
         ≡ Some (map fresh descs.now) }
@@ -93,8 +92,7 @@ fn place_alone(
     descs: &[Desc],
     turns: u32,
 ) -> Result<Option<u32>, Trouble>
-    requires prepared { IsPrepared code.now machine }
-    requires below { AllBelow (length code.now.procedures) chosen.now }
+    requires ready { CanBegin code.now chosen.now machine }
     requires chain { IsTrue (is_chain (map fitted rack.old.items) places.now) }
     requires cards { cards_at (map fitted rack.old.items) places.now ≡ Some (map fresh descs.now) }
     ensures place { IfOk result (λ found. IfSome found (GoesOnAlone code.now chosen.now turns descs.now)) }
