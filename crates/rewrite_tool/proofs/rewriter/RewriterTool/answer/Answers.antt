@@ -14,8 +14,8 @@ pub returns-in-Ok-clause-answers : goal.returns-in-Ok-clause-answers
 returns-in-Ok-clause-answers g c =
     of_both_files (Asks (map (string_bytes {Z = Global}) c.args.words.now)) (g.S.Shelf.told c.args.shelf.now) (λ contents says. record { says = says; left = tt })
     (words_of_request c.a_carried_text_plays_as_its_program_with_base_padding.ensures.accepted
-        c.a_carried_text_plays_as_its_program_with_base_padding.ensures.plays c.each_board_can_be_fitted.ensures
-        g.K.Sink _ _ (g.S.Shelf.told c.args.shelf.now) (request_of c.in-Ok.named) c.answer_request.result c.in-Ok.ensures.request c.answer_request.ensures.says)
+    c.a_carried_text_plays_as_its_program_with_base_padding.ensures.plays c.each_board_can_be_fitted.ensures
+    g.K.Sink _ _ (g.S.Shelf.told c.args.shelf.now) (request_of c.in-Ok.named) c.answer_request.result c.in-Ok.ensures.request c.answer_request.ensures.says)
 
 pub returns-in-Ok-clause-shelf : goal.returns-in-Ok-clause-shelf
 returns-in-Ok-clause-shelf g c = record {
