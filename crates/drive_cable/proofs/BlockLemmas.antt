@@ -1,32 +1,20 @@
 -- The bytes of a block, and its clocks.
-use Rattle.std.proofs.Common.{◌≡◌, ◌≤◌, ◌+◌, ◌-◌, ◌*◌, ◌/◌, ◌%◌, ◌==◌, nat_eq, ℕ, zero, suc, List, [], ◌∷◌, ◌++◌, map, length, take, drop, refl, sym, ap, subst, ◌∙◌, Bool, false, ◌&&◌, arith}
-use Rattle.std.proofs.lemmas.Bool.Decides.{nat_tests}
+use Rattle.std.proofs.Common.{◌≡◌, ◌≤◌, ◌+◌, ◌-◌, ◌*◌, ◌/◌, ◌%◌, ◌==◌, nat_eq, ℕ, suc, List, [], ◌∷◌, ◌++◌, map, length, take, drop, refl, sym, ap, subst, ◌∙◌, Bool, ◌&&◌, arith}
 use borrow.Rule.Slice.PartMut.{put_mid}
 use Rattle.std.specs.Prelude.{min, replicate}
 use Rattle.std.proofs.lemmas.List.{replicate-append-replicate, take-replicate, take_at}
 use Rattle.base.specs.Bits.{low_bits, number_of}
-use Rattle.base.proofs.NumberBits.{length-low_bits}
 use Rattle.dev_card.specs.Clocks.{is_nil, clocks_with}
 use Rattle.dev_card.specs.Blocks.{block_inputs}
 use Rattle.dev_card.specs.Board.{Input, tdos}
 use Rattle.dev_card.proofs.Scanning.{tdos_of_with}
 use Rattle.scan_paths.specs.Cables.{input_of}
-use Rattle.scan_paths.proofs.Shifting.{length_of_inputs}
+use Rattle.link_server.proofs.Blocks.{last_of, length_of_block}
 use Rattle.link_server.specs.Clients.{bytes_of_input, bytes_of_inputs}
 use Rattle.drive_cable.specs.declared.peer.Peer.{Ghosts as PeerOf}
 use Rattle.drive_cable.specs.Peers.{digits_of, PeerCarried}
 use Rattle.drive_cable.specs.PeerCalls.{BlockCarried}
 use Rattle.drive_cable.proofs.PartLemmas.{put_end}
-
-two_is_more : (m : ℕ) → (suc (suc m) == 1) ≡ false
-two_is_more m = grind (arith, nat_tests)
-
-last_of : (n m x : ℕ) (last : Bool) → n ≡ suc m → (last && (n == 1)) ≡ (last && is_nil (low_bits m x))
-last_of n m x last e = ap (λ k. last && (k == 1)) e ∙ ap (λ t. last && t) (none_left m)
-  where
-    none_left : (m : ℕ) → (suc m == 1) ≡ is_nil (low_bits m x)
-    none_left zero = refl
-    none_left (suc m) = two_is_more m
 
 -- the bytes of the first clock, and those of the rest
 pub block_put : (into front rest : List ℕ) (tdi n m : ℕ) (last tms : Bool) → n ≡ suc m → tms ≡ (last && (n == 1)) →
@@ -46,9 +34,6 @@ went_in : (is : List Input) (bits : List Bool) → length is ≡ length bits →
 went_in [] bits e = refl
 went_in (i ∷ is) [] e = absurd (omega (arith, e))
 went_in (i ∷ is) (b ∷ bits) e = ap (λ (z : List Input). i ∷ z) (went_in is bits (omega (arith, e)))
-
-length_of_block : (tdi n : ℕ) (last : Bool) → length (block_inputs tdi n last) ≡ n
-length_of_block tdi n last = length_of_inputs last (low_bits n tdi) ∙ length-low_bits n tdi
 
 pub few_inputs : (tdi n : ℕ) (last : Bool) → n ≤ 64 → length (block_inputs tdi n last) ≤ 64
 few_inputs tdi n last few = omega (arith, length_of_block tdi n last, few)

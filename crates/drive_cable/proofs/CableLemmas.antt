@@ -1,10 +1,10 @@
 -- The calls of a cable over a peer: what was carried is what it has driven.
-use Rattle.std.proofs.Common.{◌≡◌, ◌≤◌, not, ℕ, Bool, true, false, List, [], ◌∷◌, ◌++◌, map, length, refl, sym, ap, subst, ◌∙◌, inl, arith}
+use Rattle.std.proofs.Common.{◌≡◌, ◌≤◌, not, ℕ, Bool, true, false, List, [], ◌∷◌, length, refl, sym, ap, subst, ◌∙◌, inl, arith}
 use Rattle.std.proofs.lemmas.Bool.{false≢true}
 use Rattle.std.proofs.lemmas.List.{append-nil, length-map}
 use Rattle.std.proofs.lemmas.Option.{none-some}
-use Rattle.dev_card.specs.Board.{Input, Clock, clock_with, tdos}
-use Rattle.scan_paths.specs.Cables.{Signal, Pulses, Waits, Tunes, pulsed, input_of, whole, whole_if, IsClocked, IsClockedOrNot, IsSignalled, IsSignalledOrNot, HasBrokenOff, HasShifted, HasMadeFront}
+use Rattle.dev_card.specs.Board.{Input, clock_with, tdos}
+use Rattle.scan_paths.specs.Cables.{Signal, Pulses, Waits, Tunes, pulsed, whole, whole_if, IsClocked, IsClockedOrNot, IsSignalled, IsSignalledOrNot, HasBrokenOff, HasShifted, HasMadeFront}
 use Rattle.scan_paths.proofs.Signals.{clocks_in_pulsed}
 use Rattle.link_server.specs.Runs.{digit_of}
 use Rattle.link_server.specs.Clients.{bytes_of_input, bytes_of_inputs, bytes_of_wait, bytes_of_signals, answers_of}

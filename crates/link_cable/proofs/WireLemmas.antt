@@ -4,12 +4,10 @@ use Rattle.std.specs.Prelude.{slice_index_or}
 use Rattle.std.specs.Option.{option_map}
 use Rattle.std.proofs.Math.ListN.{take-append-drop}
 use Rattle.std.proofs.lemmas.Bool.{false≢true}
-use Rattle.std.proofs.lemmas.Bool.Decides.{nat_tests}
 use Rattle.std.proofs.lemmas.List.{append-nil, length-take-le, length-drop}
 use Rattle.std.proofs.lemmas.Option.{none-some, same_Some}
 use Rattle.base.specs.Bits.{low_bits, bit_value}
-use Rattle.base.proofs.NumberBits.{length-low_bits}
-use Rattle.dev_card.specs.Clocks.{is_nil, part_inputs}
+use Rattle.dev_card.specs.Clocks.{is_nil}
 use Rattle.dev_card.specs.Blocks.{block_inputs}
 use Rattle.dev_card.proofs.ScanLines.{after_none}
 use Rattle.dev_card.specs.Card.{Card}
@@ -20,6 +18,7 @@ use Rattle.link_server.specs.Runs.{LinkAt, link_after, answers_to, is_open, afte
 use Rattle.link_server.specs.Clients.{bytes_of_input, bytes_of_inputs}
 use Rattle.link_server.specs.Drives.{Carrying}
 use Rattle.link_server.specs.DriveLaws.{NoneCarried, BothCarried}
+use Rattle.link_server.proofs.Blocks.{last_of}
 use Rattle.link_server.proofs.FeedLemmas.{one_at_most}
 use Rattle.link_server.proofs.Cuts.{end_joined, answers_joined}
 use Rattle.link_cable.specs.Wires.{WireState, sent, told_sent, received, told_received, HasSent, HasReceived, HasRoom, AnswerWaits, is_none, board_in, told_board, IsGoodWire, HasGiven, HasBrokenAmong, bytes_of_clock, IsClockedOver, HasClocked, IsShiftedOver, HasShiftedOver}
@@ -216,13 +215,6 @@ good_digit o mid new steady tms tdi answer m h none g =
 
 -- ---- n clocks
 
-length-part : (last : Bool) (bits : List Bool) → length (part_inputs last bits) ≡ length bits
-length-part last [] = refl
-length-part last (b ∷ bits) = ap suc (length-part last bits)
-
-pub length-block : (tdi n : ℕ) (last : Bool) → length (block_inputs tdi n last) ≡ n
-length-block tdi n last = length-part last (low_bits n tdi) ∙ length-low_bits n tdi
-
 no_clocks : (o : Option WireState) → IsShiftedOver o [] [] o
 no_clocks o = record { went_in = refl; seen = λ cs e. refl; cards = after_none (told_board o) }
 
@@ -232,16 +224,6 @@ none_shifted told carried none w tdi last = record { clocks = []; over = no_cloc
 
 abbrev first_input : (last : Bool) (m tdi : ℕ) → Input
 first_input last m tdi = record { tms = last && is_nil (low_bits m (tdi / 2)); tdi = nat_eq (tdi % 2) 1 }
-
-two_is_more : (m : ℕ) → (suc (suc m) == 1) ≡ false
-two_is_more m = grind (arith, nat_tests)
-
-last_of : (n m x : ℕ) (last : Bool) → n ≡ suc m → (last && (n == 1)) ≡ (last && is_nil (low_bits m x))
-last_of n m x last e = ap (λ k. last && (k == 1)) e ∙ ap (λ t. last && t) (none_left m)
-  where
-    none_left : (m : ℕ) → (suc m == 1) ≡ is_nil (low_bits m x)
-    none_left zero = refl
-    none_left (suc m) = two_is_more m
 
 -- one clock, and the clocks of the rest
 joined : (o mid new : Option WireState) (i : Input) (is : List Input) (bit : Bool) (clocks : List Clock) → IsClockedOver o i.tms i.tdi bit mid →

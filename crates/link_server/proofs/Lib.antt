@@ -1,2 +1,3 @@
 pub mod FeedLemmas
 pub mod Cuts
+pub mod Blocks
