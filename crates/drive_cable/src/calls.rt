@@ -1,28 +1,20 @@
 //! Bytes to a peer and answers from it, until all are through.
-ghost use Rattle.std.specs.Prelude.{◌≡◌, ◌+◌, ◌*◌, ◌≤◌, ◌<◌, ◌^◌, ◌==◌, ◌&&◌, [], length, replicate, true, IfOk};
-ghost use Rattle.tool_io.specs.Causes.{IsSaturated, CountKept, CountRose, HasCause, raised_count};
-ghost use Rattle.base.specs.Bits.{bit_value, number_of};
+ghost use Rattle.std.specs.Prelude.{◌≡◌, ◌*◌, ◌≤◌, ◌<◌, ◌^◌, ◌==◌, [], length, replicate, true};
+ghost use Rattle.tool_io.specs.Causes.{HasCause};
+ghost use Rattle.base.specs.Bits.{number_of};
 ghost use Rattle.dev_card.specs.Blocks.{block_inputs};
-ghost use Rattle.link_server.specs.Clients.{bytes_of_input, bytes_of_inputs, bytes_of_wait};
+ghost use Rattle.link_server.specs.Clients.{bytes_of_inputs, bytes_of_wait};
 ghost use Rattle.drive_cable.specs.Peers.{digits_of};
 ghost use Rattle.drive_cable.specs.PeerCalls.{HasCarried, HasClocked, HasClockedBlock};
 
 use crate::peer::Peer;
+use link_server::{clock_bytes, is_last, with_bit};
 use tool_io::Failed;
 
 /// The most clocks of a block, and the bytes of as many.
 const MOST_CLOCKS: usize = 64;
 
 const MOST_BYTES: usize = 192;
-
-/// Counts one fault more, up to the last value of the type.
-pub(crate) fn raise(count: &mut u64)
-    ensures raised { count.new ≡ raised_count count.old }
-    ensures kept { CountKept count.old count.new (IsSaturated count.old) (IsSaturated count.new) }
-    ensures rose { CountRose count.old count.new (IsSaturated count.new) }
-{
-    *count = count.saturating_add(1);
-}
 
 /// Sends all of the bytes.
 ///
@@ -63,14 +55,6 @@ fn ask<P: Peer>(peer: &mut P, bytes: &[u8], into: &mut [bool]) -> Result<(), Fai
     receive_all(peer, into)
 }
 
-// The bytes of one clock: TCK low, a question for TDO, and TCK high.
-fn clock_bytes(tms: bool, tdi: bool) -> [u8; 3]
-    ensures { result ≡ bytes_of_input (record { tms = tms; tdi = tdi }) }
-{
-    let levels = b'0' + if tms { 2 } else { 0 } + if tdi { 1 } else { 0 };
-    [levels, b'R', levels + 4]
-}
-
 // One clock over a peer.
 pub(crate) fn clock_peer<P: Peer>(peer: &mut P, tms: bool, tdi: bool) -> Result<bool, Failed>
     ensures clocked { HasClocked P.Peer peer.old (record { tms = tms; tdi = tdi }) peer.new result }
@@ -94,13 +78,6 @@ fn put_clocks(into: &mut [u8], tdi: u64, n: u32, last: bool)
     put_clocks(&mut into[3..], tdi / 2, n - 1, last);
 }
 
-// Whether TMS is 1 at the first of n clocks.
-fn is_last(last: bool, n: u32) -> bool
-    ensures { result ≡ (last && (n == 1)) }
-{
-    last && n == 1
-}
-
 // The number of at most 64 bits, the first of them the lowest.
 fn number_in(bits: &[bool]) -> u64
     requires { length bits.now ≤ 64 }
@@ -112,17 +89,6 @@ fn number_in(bits: &[bool]) -> u64
     }
     let rest = number_in(&bits[1..]);
     with_bit(rest, bits[0], bits.len() as u32 - 1)
-}
-
-// One bit more at the lowest place of a number of n bits.
-fn with_bit(rest: u64, bit: bool, n: u32) -> u64
-    requires few { n < 64 }
-    requires small { rest < 2 ^ n }
-    ensures value { result ≡ bit_value bit + 2 * rest }
-    ensures small { result < 2 ^ (n + 1) }
-{
-    let double = rest * 2;
-    if bit { double + 1 } else { double }
 }
 
 // A block of n clocks over a peer: the bytes of all are sent, and then their answers are received.

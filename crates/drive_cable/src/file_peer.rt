@@ -2,9 +2,9 @@
 ghost use Rattle.std.specs.Prelude.{◌≡◌, None};
 ghost use Rattle.tool_io.specs.Causes.{NeverFalls, HasRisen};
 
-use crate::calls::raise;
 use crate::digits::put_bits;
 use crate::peer::Peer;
+use link_server::raise;
 use std::fs::{File, OpenOptions};
 use std::io::{Read, Write};
 use std::rt::Files;

@@ -3,9 +3,9 @@ ghost use Rattle.std.specs.Prelude.{◌≡◌, ◌<◌, ◌≤◌, [], length, S
 ghost use Rattle.tool_io.specs.Causes.{HasCause};
 ghost use Rattle.drive_cable.specs.Peers.{PeerCarried, SendAnswer, ReceiveAnswer};
 
-use crate::calls::raise;
 use crate::digits::put_bits;
 use crate::peer::Peer;
+use link_server::raise;
 use tool_io::{Failed, MemSink, Sink};
 
 /// A peer in memory: its bytes go to a sink in memory, and its answers are listed. It tells both.

@@ -1,23 +1,13 @@
 //! Bytes to a wire and answers from it, until all are through.
-ghost use Rattle.std.specs.Prelude.{◌≡◌, ◌≢◌, ◌+◌, ◌<◌, ◌≤◌, ◌*◌, ◌^◌, ◌==◌, ◌&&◌, ℕ, Bool, true, length, IfSome, IfNone, IfOk, IsOk, OnOk};
-ghost use Rattle.tool_io.specs.Causes.{IsSaturated, CountKept, CountRose, raised_count};
-ghost use Rattle.base.specs.Bits.{bit_value};
+ghost use Rattle.std.specs.Prelude.{◌≡◌, ◌≢◌, ◌<◌, ◌≤◌, ◌^◌, ◌==◌, Bool, true, length, IfSome, IfNone, IfOk, IsOk, OnOk};
 ghost use Rattle.dev_card.specs.Blocks.{block_inputs};
 ghost use Rattle.link_server.specs.Runs.{digit_of};
-ghost use Rattle.link_cable.specs.Wires.{told_sent, AllCarried, HasRoom, AnswerWaits, HasGiven, OneCarried, bytes_of_clock, ClockOver, ShiftOver, IsGoodWire};
+ghost use Rattle.link_cable.specs.Wires.{told_sent, AllCarried, HasRoom, AnswerWaits, HasGiven, OneCarried, ClockOver, ShiftOver, IsGoodWire};
 ghost use Rattle.link_cable.specs.WireCalls.{KeepsWire};
 
 use crate::wire::Wire;
+use link_server::{clock_bytes, is_last, raise, with_bit};
 use tool_io::Failed;
-
-/// Counts one fault more, up to the last value of the type.
-pub(crate) fn raise(count: &mut u64)
-    ensures raised { count.new ≡ raised_count count.old }
-    ensures kept { CountKept count.old count.new (IsSaturated count.old) (IsSaturated count.new) }
-    ensures rose { CountRose count.old count.new (IsSaturated count.new) }
-{
-    *count = count.saturating_add(1);
-}
 
 // Sends all of the bytes. A send that takes none of them is a fault.
 fn send_all<W: Wire>(wire: &mut W, bytes: &[u8], faults: &mut u64) -> Result<(), Failed>
@@ -58,14 +48,6 @@ fn receive_one<W: Wire>(wire: &mut W, faults: &mut u64) -> Result<u8, Failed>
     Ok(answer[0])
 }
 
-// The bytes of one clock: TCK low, a question for TDO, and TCK high.
-fn clock_bytes(tms: bool, tdi: bool) -> [u8; 3]
-    ensures { result ≡ bytes_of_clock tms tdi }
-{
-    let levels = b'0' + if tms { 2 } else { 0 } + if tdi { 1 } else { 0 };
-    [levels, b'R', levels + 4]
-}
-
 // The bit of a digit.
 fn bit_of(answer: u8) -> Option<bool>
     ensures some { IfSome result (λ bit. answer ≡ digit_of bit) }
@@ -103,17 +85,6 @@ pub(crate) fn clock_wire<W: Wire>(
     }
 }
 
-// One bit more at the lowest place of a number of n bits.
-fn with_bit(rest: u64, bit: bool, n: u32) -> u64
-    requires few { n < 64 }
-    requires small { rest < 2 ^ n }
-    ensures value { result ≡ bit_value bit + 2 * rest }
-    ensures small { result < 2 ^ (n + 1) }
-{
-    let double = rest * 2;
-    if bit { double + 1 } else { double }
-}
-
 // n clocks over a wire, with the lowest bits of a number, and TMS 1 at the last of them if it is so marked.
 pub(crate) fn shift_wire<W: Wire>(
     wire: &mut W,
@@ -136,11 +107,4 @@ pub(crate) fn shift_wire<W: Wire>(
     let bit = clock_wire(wire, is_last(last, n), tdi % 2 == 1, faults)?;
     let rest = shift_wire(wire, tdi / 2, n - 1, last, faults)?;
     Ok(with_bit(rest, bit, n - 1))
-}
-
-// Whether TMS is 1 at the first of n clocks.
-fn is_last(last: bool, n: u32) -> bool
-    ensures { result ≡ (last && (n == 1)) }
-{
-    last && n == 1
 }

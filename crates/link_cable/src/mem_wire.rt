@@ -4,11 +4,10 @@ ghost use Rattle.chain_sim.specs.Places.{is_chain};
 ghost use Rattle.link_cable.specs.Wires.{SendAnswer, SendCarries, HasReceived, ReceiveCarries, KeepsLink, HasRoom, IsWireKept, IsGoodWire};
 ghost use Rattle.link_cable.specs.MemWires.{over_sound, over_some};
 
-use crate::calls::raise;
 use crate::waiting::{MOST_WAITING, Waiting};
 use crate::wire::Wire;
 use dev_card::Device;
-use link_server::Link;
+use link_server::{Link, raise};
 use tool_io::Failed;
 
 /// A wire to a link in memory, over the devices at some places of a lent rack, whose calls with the listed numbers fail.
