@@ -1,5 +1,5 @@
 // Output that is gathered before it is written.
-ghost use Rattle.std.specs.Prelude.{◌≡◌, ◌+◌, ◌<◌, ◌≤◌, [], ◌++◌, length, IsOk, OnOk, OnErr};
+ghost use Rattle.std.specs.Prelude.{◌≡◌, ◌+◌, ◌<◌, ◌≤◌, [], ◌++◌, not, length, IsOk, OnOk, OnErr};
 ghost use Rattle.std.specs.Fmt.{signed_decimal};
 ghost use Rattle.tool_io.specs.Causes.{HasCause};
 ghost use Rattle.tool_io.specs.Bytes.{then_bytes, MovesFront};
@@ -49,6 +49,13 @@ impl<'a, K: Sink> Lines<'a, K> {
             block: Block::new(),
             failed: false,
         }
+    }
+
+    /// Whether no call has failed.
+    pub fn is_whole(&self) -> bool
+        ensures { result ≡ not self.now.failed }
+    {
+        !self.failed
     }
 
     /// Puts the bytes after all that was put before. The sink is not touched while all that is gathered fits into

@@ -14,7 +14,8 @@ pub struct Failed;
 /// A store of named files, of which one at a time is read.
 ///
 /// A shelf tells its files to contracts, as one in memory does, or tells nothing, as one over the files of a system;
-/// either way it stays so, and a told file never changes. It may also tell which files were picked. It has a count of faults for each name, which never falls.
+/// either way it stays so, and a told file never changes. It may also tell which files were picked. It has a count of
+/// faults for each name, which never falls.
 pub trait Shelf {
     /// The names and their bytes, where the shelf tells them.
     ghost told: { Self → Option (List (List ℕ × List ℕ)) };
