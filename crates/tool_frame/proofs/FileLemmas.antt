@@ -1,9 +1,12 @@
 -- On the contents of files that are named.
-use Rattle.std.proofs.Common.{◌≡◌, ◌∙◌, ℕ, List, [], ◌∷◌, map, Option, None, Some, IfSome, ap, sym, subst}
-use Rattle.std.specs.Prelude.{Result}
+use Rattle.std.proofs.Common.{◌≡◌, ◌∙◌, ℕ, List, [], ◌∷◌, map, Option, None, Some, IfSome, refl, ap, sym, subst}
+use Rattle.std.specs.Prelude.{Result, Ok, Err, IsErrAnd, IsErrOf}
 use Rattle.tool_io.specs.declared.outside.Shelf.{Ghosts as ShelfOf}
+use Rattle.tool_io.specs.Files.{then_names, PicksFront, HasPicked}
+use Rattle.tool_io.proofs.PickLemmas.{picks_none, picks_at_most, picks_then}
 use Rattle.tool_frame.specs.declared.no_answer.NoAnswer.{NoAnswer}
-use Rattle.tool_frame.specs.Files.{file_named, OfFile, OfFiles, NamesOne, KeepsShelf}
+use Rattle.tool_frame.specs.declared.no_answer.NoAnswer.TheVariants.{Read, Write}
+use Rattle.tool_frame.specs.Files.{file_named, OfFile, OfFiles, NamesThis, NamesOne, paths_of, PicksNamed, nothing_picked, files_picked, KeepsShelf}
 
 -- more that stands of the same contents
 pub of_files_as : {names : List (Option (List ℕ)) → Type 0} {told : Option (List (List ℕ × List ℕ))} {P Q : List (Option (List ℕ)) → Type 0} →
@@ -30,11 +33,59 @@ pub of_no_file : (told : Option (List (List ℕ × List ℕ))) (IsNamed : List �
     ((path : List ℕ) → IsNamed path → ⊥) → Q [] → OfFiles (NamesOne IsNamed) told Q
 of_no_file told IsNamed none q = record { contents = []; read = λ named n. absurd (none n.path n.is); holds = q }
 
--- the file that was reached is the one that is named
+-- ---- what is kept of a store
+
+module _ {S T U : Type 0} {shelf : ShelfOf S} {names : List (Option (List ℕ)) → Type 0} {reached : List ℕ → Type 0} {before after : S} where
+  -- after calls that touch no file, with what they answer
+  pub shelf_as : {r : Result T NoAnswer} {q : Result U NoAnswer} → (IsErrOf q Read → IsErrOf r Read) → KeepsShelf shelf names reached before after r →
+      KeepsShelf shelf names reached before after q
+  shelf_as f kept = record { keeps = kept.keeps; later = kept.later; once = kept.once; read = λ failed. kept.read (f failed) }
+
+  -- at the exit of a `?`
+  pub shelf_at : (e : NoAnswer) (q : Result U NoAnswer) → IsErrAnd q (λ x. x ≡ e) → KeepsShelf {T = T} shelf names reached before after (Err e) →
+      KeepsShelf shelf names reached before after q
+  shelf_at e (Ok x) is kept = absurd is
+  shelf_at e (Err x) is kept = shelf_as (λ failed. cc) kept
+
+  -- and at that of a write
+  pub shelf_unwritten : {r : Result T NoAnswer} (q : Result U NoAnswer) → IsErrAnd q (λ x. x ≡ Write) → KeepsShelf shelf names reached before after r →
+      KeepsShelf shelf names reached before after q
+  shelf_unwritten (Ok x) is kept = absurd is
+  shelf_unwritten (Err x) is kept = shelf_as (λ failed. absurd cc) kept
+
+-- ---- picks
+
+-- the same picks, if what is named is named by another rule, too
+pub picks_within : {P Q : List (Option (List ℕ)) → Type 0} {before after : Option (List (List ℕ))} → ((named : List (Option (List ℕ))) → P named → Q named) →
+    PicksNamed P before after → PicksNamed Q before after
+picks_within f (nothing_picked same) = nothing_picked same
+picks_within f (files_picked named is front) = files_picked named (f named is) front
+
+-- the one file was picked, or perhaps not after a failure
+pub picks_this : {T E : Type 0} {before after : Option (List (List ℕ))} {path : List ℕ} (r : Result T E) → HasPicked before path after r →
+    PicksNamed (NamesThis path) before after
+picks_this {path = path} r h = files_picked (Some path ∷ []) refl (picks_at_most [] r h)
+
+-- of two files the first was, and the second was not reached
+pub picks_first_of : {T E : Type 0} {before after : Option (List (List ℕ))} {first second : List ℕ} (r : Result T E) → HasPicked before first after r →
+    PicksNamed (λ named. named ≡ Some first ∷ Some second ∷ []) before after
+picks_first_of {first = first} {second = second} r h = files_picked (Some first ∷ Some second ∷ []) refl (picks_at_most (second ∷ []) r h)
+
+second_front : {mid after : Option (List (List ℕ))} {second : List ℕ} → PicksNamed (NamesThis second) mid after → PicksFront mid (second ∷ []) after
+second_front {mid = mid} {second = second} (nothing_picked same) = subst (PicksFront mid (second ∷ [])) (sym same) (picks_none mid (second ∷ []))
+second_front {mid = mid} {after = after} (files_picked named is front) = subst (λ (xs : List (Option (List ℕ))). PicksFront mid (paths_of xs) after) is front
+
+-- the first was, and then perhaps the second
+pub picks_both : {before mid after : Option (List (List ℕ))} {first second : List ℕ} → mid ≡ then_names before (first ∷ []) → PicksNamed (NamesThis second) mid after →
+    PicksNamed (λ named. named ≡ Some first ∷ Some second ∷ []) before after
+picks_both {first = first} {second = second} e h = files_picked (Some first ∷ Some second ∷ []) refl (picks_then e (second_front h))
+
+-- the file that was reached and picked is the one that is named
 pub shelf_of_one : {S T : Type 0} {shelf : ShelfOf S} {before after : S} {r : Result T NoAnswer} (IsNamed : List ℕ → Type 0) (path : List ℕ) →
-    IsNamed path → KeepsShelf shelf (λ read. read ≡ path) before after r → KeepsShelf shelf IsNamed before after r
+    IsNamed path → KeepsShelf shelf (NamesThis path) (λ read. read ≡ path) before after r → KeepsShelf shelf (NamesOne IsNamed) IsNamed before after r
 shelf_of_one IsNamed path named kept = record {
   keeps = kept.keeps;
   later = kept.later;
   read = λ failed. let cause = kept.read failed in record { path = cause.path; is_reached = subst IsNamed (sym cause.is_reached) named; rose = cause.rose };
+  once = picks_within (λ others alone. record { path = path; is = named; alone = alone }) kept.once;
 }

@@ -1,7 +1,7 @@
 -- Files that words name, and their contents as they were read. The rules are the tools' own.
 use Rattle.std.specs.Prelude.{◌≡◌, ℕ, List, [], ◌∷◌, map, Option, None, Some, IfSome, Result, IsErrOf}
 use Rattle.tool_io.specs.Causes.{HasRisenAt, NoneFalls}
-use Rattle.tool_io.specs.Files.{file_of}
+use Rattle.tool_io.specs.Files.{file_of, PicksFront}
 use Rattle.tool_io.specs.declared.outside.Shelf.{Ghosts as ShelfOf}
 use Rattle.tool_frame.specs.declared.no_answer.NoAnswer.{NoAnswer}
 use Rattle.tool_frame.specs.declared.no_answer.NoAnswer.TheVariants.{Read}
@@ -30,11 +30,15 @@ pub record OfFiles (names : List (Option (List ℕ)) → Type 0) (told : Option 
   pub read : (named : List (Option (List ℕ))) → names named → IfSome told (λ files. map (file_named files) named ≡ contents)
   pub holds : stands contents
 
+-- the file of this path is named, and no other
+abbrev pub NamesThis : List ℕ → List (Option (List ℕ)) → Type 0
+NamesThis path named = named ≡ Some path ∷ []
+
 -- One file is named.
 pub record NamesOne (IsNamed : List ℕ → Type 0) (named : List (Option (List ℕ))) : Type 0 where
   pub path : List ℕ
   pub is : IsNamed path
-  pub alone : named ≡ Some path ∷ []
+  pub alone : NamesThis path named
 
 -- the contents of the first place
 abbrev pub first_of : List (Option (List ℕ)) → Option (List ℕ)
@@ -52,8 +56,24 @@ pub record HasReadCause {S : Type 0} (shelf : ShelfOf S) (reached : List ℕ →
   pub is_reached : reached path
   pub rose : HasRisenAt shelf.faults shelf.is_last path before after
 
--- The store tells the same files, and no count fell; and a read fault has its cause in a file that was reached.
-pub record KeepsShelf {S T : Type 0} (shelf : ShelfOf S) (reached : List ℕ → Type 0) (before after : S) (result : Result T NoAnswer) : Type 0 where
+-- the paths at the places that name a file, in their order
+abbrev pub paths_of : List (Option (List ℕ)) → List (List ℕ)
+paths_of [] = []
+paths_of (None ∷ named) = paths_of named
+paths_of (Some path ∷ named) = path ∷ paths_of named
+
+-- The picks before and after, if these files are named: some in front of them were picked, perhaps none or all, each
+-- once and in the order of their places, and no other file was; and none was if no files are named.
+pub data PicksNamed (names : List (Option (List ℕ)) → Type 0) (before after : Option (List (List ℕ))) : Type 0 where
+  nothing_picked : after ≡ before → PicksNamed names before after
+  files_picked : (named : List (Option (List ℕ))) → names named → PicksFront before (paths_of named) after →
+      PicksNamed names before after
+
+-- The store tells the same files, and no count fell; of the files that are named only some in front were picked, each
+-- once, and no other was; and a read fault has its cause in a file that was reached.
+pub record KeepsShelf {S T : Type 0} (shelf : ShelfOf S) (names : List (Option (List ℕ)) → Type 0)
+    (reached : List ℕ → Type 0) (before after : S) (result : Result T NoAnswer) : Type 0 where
   pub keeps : shelf.told after ≡ shelf.told before
   pub later : NoneFalls shelf.faults shelf.is_last before after
+  pub once : PicksNamed names (shelf.picks before) (shelf.picks after)
   pub read : IsErrOf result Read → HasReadCause shelf reached before after

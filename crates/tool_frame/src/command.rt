@@ -1,7 +1,7 @@
 //! What a command does with its words, and the exit code of its process.
 ghost use Rattle.std.specs.Prelude.{◌≡◌, map, string_bytes};
 ghost use Rattle.tool_io.specs.Causes.{HasRisen, NeverFalls, NoneFalls};
-ghost use Rattle.tool_frame.specs.Files.{KeepsShelf, HasReadCause};
+ghost use Rattle.tool_frame.specs.Files.{PicksNamed, KeepsShelf, HasReadCause};
 ghost use Rattle.tool_frame.specs.Frame.{KeepsCount};
 ghost use Rattle.tool_frame.specs.Commands.{HasRunCommand, HasEnded, exit_code_of};
 
@@ -48,8 +48,8 @@ pub fn run_command<T: Tool, S: Shelf, K: Sink>(
     ensures ran { HasRunCommand T.help_text T.version_text (map string_bytes words.now) (S.told shelf.old)
         (T.names (map string_bytes words.now)) (T.answers (map string_bytes words.now))
         (T.leaves (map string_bytes words.now)) (K.written out.old) (K.written out.new) loan.old loan.new result }
-    ensures shelf { KeepsShelf S.Shelf (T.reached (S.told shelf.old) (map string_bytes words.now))
-        shelf.old shelf.new result }
+    ensures shelf { KeepsShelf S.Shelf (T.names (map string_bytes words.now))
+        (T.reached (S.told shelf.old) (map string_bytes words.now)) shelf.old shelf.new result }
     ensures sink { KeepsCount K.Sink out.old out.new result }
 {
     match text_asked(words, tool.help(), tool.version()) {
@@ -85,7 +85,9 @@ pub fn run_program<T: Tool, S: Shelf, K: Sink>(
         (T.reached (S.told shelf.old) (map string_bytes words.now)) shelf.old shelf.new }
     ensures write { result ≡ 10 → HasRisen K.faults K.is_last out.old out.new }
 
-    // Whatever is answered, the files stay, and no count falls.
+    // Whatever is answered, only files that the words name are opened, each at most once, and in their order. The files
+    // stay, and no count falls.
+    ensures once { PicksNamed (T.names (map string_bytes words.now)) (S.picks shelf.old) (S.picks shelf.new) }
     ensures keeps { S.told shelf.new ≡ S.told shelf.old }
     ensures later { NoneFalls S.faults S.is_last shelf.old shelf.new }
     ensures out_later { NeverFalls K.faults K.is_last out.old out.new }

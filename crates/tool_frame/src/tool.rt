@@ -74,8 +74,8 @@ pub trait Tool {
         ensures answers { OfFiles (names (map string_bytes words.now)) (S.told shelf.old) (λ contents. SaysAndLeaves
             K.Sink (answers (map string_bytes words.now) contents) (leaves (map string_bytes words.now) contents)
             lines.old lines.new loan.old loan.new result) }
-        ensures shelf { KeepsShelf S.Shelf (reached (S.told shelf.old) (map string_bytes words.now))
-            shelf.old shelf.new result };
+        ensures shelf { KeepsShelf S.Shelf (names (map string_bytes words.now))
+            (reached (S.told shelf.old) (map string_bytes words.now)) shelf.old shelf.new result };
 
     /// What an answer leaves may be left after a write fault too, since the answer was put before.
     ghost leaves_at_write_fault: { (words : List (List ℕ)) (contents : List (Option (List ℕ)))
@@ -102,8 +102,8 @@ pub fn run<T: Tool, S: Shelf, K: Sink>(
     ensures ran { OfFiles (T.names (map string_bytes words.now)) (S.told shelf.old) (λ contents. WritesAndLeaves
         (T.answers (map string_bytes words.now) contents) (T.leaves (map string_bytes words.now) contents)
         (K.written out.old) (K.written out.new) loan.old loan.new result) }
-    ensures shelf { KeepsShelf S.Shelf (T.reached (S.told shelf.old) (map string_bytes words.now))
-        shelf.old shelf.new result }
+    ensures shelf { KeepsShelf S.Shelf (T.names (map string_bytes words.now))
+        (T.reached (S.told shelf.old) (map string_bytes words.now)) shelf.old shelf.new result }
     ensures sink { KeepsCount K.Sink out.old out.new result }
 {
     let mut lines = Lines::new(out);

@@ -1,7 +1,7 @@
 use Rattle.std.proofs.Common.{rules, map, string_bytes, Global}
 use Rattle.tool_frame.proofs.AnswerLemmas.{wrote_all, unfinished, not_answered}
 use Rattle.tool_frame.specs.declared.no_answer.NoAnswer.TheVariants.{Write}
-use Rattle.tool_frame.proofs.FileLemmas.{of_files_as}
+use Rattle.tool_frame.proofs.FileLemmas.{of_files_as, shelf_unwritten}
 use Rattle.tool_frame.proofs.FrameLemmas.{left_at}
 use Rattle.tool_frame.proofs.tool.run.Goals as goal
 
@@ -28,3 +28,7 @@ pub returns-clause-ran : goal.returns-clause-ran
 returns-clause-ran g c =
     of_files_as (λ contents a. record { written = wrote_all c.new-lines.ensures.empty (search rules) (search rules) a.says c.in_ok-finish.ensures.put c.in_ok-finish.ensures.empty; left = a.left })
     c.in_ok-ending.ensures.answers
+
+pub returns-in_err-finish-clause-shelf : goal.returns-in_err-finish-clause-shelf
+returns-in_err-finish-clause-shelf g c =
+    shelf_unwritten c.from_residual-in_err-finish.result c.from_residual-in_err-finish.ensures.1 c.in_ok-ending.ensures.shelf
