@@ -2,7 +2,7 @@
 ghost use Rattle.std.specs.Prelude.{◌≡◌, Some};
 ghost use Rattle.tool_io.specs.Lines.{IsWhole, IsSilent, HasPut};
 ghost use Rattle.tool_frame.specs.Answers.{Says};
-ghost use Rattle.tool_frame.specs.Files.{OfFile, KeepsShelf};
+ghost use Rattle.tool_frame.specs.Files.{OfFile, NamesThis, KeepsShelf};
 ghost use Rattle.counting_tests.specs.Answers.{count_line, HeldAnswer};
 
 use crate::CountStatus;
@@ -30,7 +30,7 @@ pub(crate) fn answer_file<S: Shelf, K: Sink>(
     requires { IsWhole lines.old }
     ensures says { OfFile (S.told shelf.old) (Some path.now) (λ held.
         Says K.Sink (HeldAnswer held) (IsSilent lines.old lines.new) lines.old lines.new result) }
-    ensures shelf { KeepsShelf S.Shelf (λ read. read ≡ path.now) shelf.old shelf.new result }
+    ensures shelf { KeepsShelf S.Shelf (NamesThis path.now) (λ read. read ≡ path.now) shelf.old shelf.new result }
 {
     match board_named(alloc, shelf, path) {
         Ok(devices) => {

@@ -1,13 +1,18 @@
--- On the contents of the two files: the board comes first, and the other file after it.
+-- On the contents of the two files, and on what is kept of their store: the board comes first, and the other file after
+-- it.
 use Rattle.std.proofs.Common.{◌≡◌, ◌∙◌, ℕ, List, [], ◌∷◌, map, Option, None, Some, IfSome, refl, sym, ap, subst}
-use Rattle.tool_io.specs.Causes.{NoneFalls}
+use Rattle.std.specs.Prelude.{Result, IsErrOf}
+use Rattle.tool_io.specs.Causes.{HasRisenAt, NoneFalls}
+use Rattle.tool_io.specs.Files.{then_names, HasPicked}
 use Rattle.tool_io.specs.declared.outside.Shelf.{Ghosts as ShelfOf}
-use Rattle.tool_io.proofs.CauseLemmas.{rose_after_at}
 use Rattle.dev_card.specs.declared.desc.Desc.{Desc}
-use Rattle.tool_frame.specs.Files.{file_named, AreRead, OfFile, OfFiles, HasReadCause}
+use Rattle.tool_frame.specs.declared.no_answer.NoAnswer.{NoAnswer}
+use Rattle.tool_frame.specs.declared.no_answer.NoAnswer.TheVariants.{Read}
+use Rattle.tool_frame.specs.Files.{file_named, AreRead, OfFile, OfFiles, NamesThis, KeepsShelf}
+use Rattle.tool_frame.proofs.FileLemmas.{shelf_within, shelf_of_first, shelf_of_both}
 use Rattle.named_files.specs.Boards.{HasBoard, ReadsBoard}
 use Rattle.named_files.specs.Words.{FileNames, IsRequest}
-use Rattle.named_files.specs.Contents.{Contents, contents_in, OfContents, OfAsked, NamesBoth, OfWords, HoldsBoard, IsReached, file_reached, IsAskedAndReached, IsReachedBy}
+use Rattle.named_files.specs.Contents.{Contents, contents_in, OfContents, OfAsked, AreFilesOf, NamesBoth, OfWords, HoldsBoard, IsReached, board_reached, file_reached, IsAskedAndReached}
 use Rattle.named_files.proofs.WordLemmas.{one_request}
 
 abbrev pub both : Option (List ℕ) → Option (List ℕ) → Contents
@@ -94,23 +99,24 @@ holds_board named devices (Some files) reads = record {
   board = subst (λ (h : Option (List ℕ)). HasBoard h devices) (sym (reads.read).same) reads.holds;
 }
 
--- the other file could not be read after a board that is right
-pub file_cause : {S : Type 0} {shelf : ShelfOf S} (before between after : S) (named : FileNames) (devices : List Desc)
-    (told : Option (List (List ℕ × List ℕ))) → ReadsBoard told named.board devices → NoneFalls shelf.faults shelf.is_last before between →
-    HasReadCause shelf (λ read. read ≡ named.file) between after → HasReadCause shelf (IsReached told named) before after
-file_cause before between after named devices told reads kept c = record {
-  path = c.path;
-  is_reached = file_reached (sym c.is_reached) (holds_board named devices told reads);
-  rose = rose_after_at kept c.rose;
-}
+-- what is kept of the store if the board was read, and it is no board, or perhaps not read after a failure
+module _ {S T R E : Type 0} {shelf : ShelfOf S} {before after : S} {q : Result T NoAnswer} (r : Result R E) where
+  pub shelf_of_board : (named : FileNames) → HasPicked (shelf.picks before) named.board (shelf.picks after) r → shelf.told after ≡ shelf.told before →
+      NoneFalls shelf.faults shelf.is_last before after → (IsErrOf q Read → HasRisenAt shelf.faults shelf.is_last named.board before after) →
+      KeepsShelf shelf (AreFilesOf named) (IsReached (shelf.told before) named) before after q
+  shelf_of_board named once keeps later read = shelf_of_first r (board_reached refl) once keeps later read
 
--- a file that was reached is one that is asked for
-pub reached_asked : {S : Type 0} {shelf : ShelfOf S} {before after : S} (asks : FileNames → Type 0) {told : Option (List (List ℕ × List ℕ))}
-    {named : FileNames} → asks named → HasReadCause shelf (IsReached told named) before after → HasReadCause shelf (IsAskedAndReached asks told) before after
-reached_asked asks {named = named} is c = record { path = c.path; is_reached = record { named = named; asked = is; reached = c.is_reached }; rose = c.rose }
+-- and if it is right, and then perhaps the other file was read
+pub shelf_of_request : {S T : Type 0} {shelf : ShelfOf S} {before mid after : S} {q : Result T NoAnswer} (named : FileNames) {devices : List Desc} →
+    ReadsBoard (shelf.told before) named.board devices → shelf.picks mid ≡ then_names (shelf.picks before) (named.board ∷ []) → shelf.told mid ≡ shelf.told before →
+    NoneFalls shelf.faults shelf.is_last before mid → KeepsShelf shelf (NamesThis named.file) (λ read. read ≡ named.file) mid after q →
+    KeepsShelf shelf (AreFilesOf named) (IsReached (shelf.told before) named) before after q
+shelf_of_request {shelf = shelf} {before = before} named {devices = devices} reads once keeps later kept =
+    shelf_of_both (file_reached refl (holds_board named devices (shelf.told before) reads)) once keeps later kept
 
--- a file of the request that was reached is one of the words
-pub reached_by : {S : Type 0} {shelf : ShelfOf S} {before after : S} {key : List ℕ} {told : Option (List (List ℕ × List ℕ))}
-    {words : List (List ℕ)} {named : FileNames} → IsRequest key words named → HasReadCause shelf (IsReached told named) before after →
-    HasReadCause shelf (IsReachedBy key told words) before after
-reached_by {key = key} {words = words} asks c = reached_asked (IsRequest key words) asks c
+-- the files of a request are those that are asked for
+pub shelf_asked : {S T : Type 0} {shelf : ShelfOf S} {before after : S} {q : Result T NoAnswer} (asks : FileNames → Type 0) {told : Option (List (List ℕ × List ℕ))}
+    {named : FileNames} → asks named → KeepsShelf shelf (AreFilesOf named) (IsReached told named) before after q →
+    KeepsShelf shelf (NamesBoth asks) (IsAskedAndReached asks told) before after q
+shelf_asked asks {named = named} is kept =
+    shelf_within (λ others both. record { files = named; asked = is; both = both }) (λ path reached. record { named = named; asked = is; reached = reached }) kept

@@ -1,8 +1,7 @@
 -- The contents of the two files, as they were read, and which of them is read. The rules are these tools' own.
-use Rattle.std.specs.Prelude.{◌≡◌, ℕ, List, [], ◌∷◌, Option, Some, IfSome}
+use Rattle.std.specs.Prelude.{◌≡◌, ℕ, List, Option, Some, IfSome}
 use Rattle.dev_card.specs.declared.desc.Desc.{Desc}
-use Rattle.tool_io.specs.Files.{PicksFront}
-use Rattle.tool_frame.specs.Files.{file_named, first_of, second_of}
+use Rattle.tool_frame.specs.Files.{file_named, NamesTwo, first_of, second_of}
 use Rattle.named_files.specs.Boards.{HasBoard}
 use Rattle.named_files.specs.Words.{FileNames, IsRequest}
 
@@ -35,11 +34,15 @@ pub record OfAsked (asks : FileNames → Type 0) (told : Option (List (List ℕ 
   pub read : (named : FileNames) → asks named → IfSome told (λ files. contents_in files named ≡ contents)
   pub holds : stands contents
 
+-- the files of a request are named, the board at the first place
+abbrev pub AreFilesOf : FileNames → List (Option (List ℕ)) → Type 0
+AreFilesOf files named = NamesTwo files.board files.file named
+
 -- The files that are asked for are named, the board at the first place.
 pub record NamesBoth (asks : FileNames → Type 0) (named : List (Option (List ℕ))) : Type 0 where
   pub files : FileNames
   pub asked : asks files
-  pub both : named ≡ Some files.board ∷ Some files.file ∷ []
+  pub both : AreFilesOf files named
 
 -- The same of words that are a board and one more file.
 abbrev pub OfWords : List ℕ → Option (List (List ℕ × List ℕ)) → List (List ℕ) → (Contents → Type 0) → Type 0
@@ -66,14 +69,3 @@ pub record IsAskedAndReached (asks : FileNames → Type 0) (told : Option (List 
 -- a file that the words name and that is read, if they are a board and one more file
 abbrev pub IsReachedBy : List ℕ → Option (List (List ℕ × List ℕ)) → List (List ℕ) → List ℕ → Type 0
 IsReachedBy key told words path = IsAskedAndReached (IsRequest key words) told path
-
--- the names of both files, in the order in which they are picked
-abbrev pub both_names : FileNames → List (List ℕ)
-both_names named = named.board ∷ named.file ∷ []
-
--- The files that are picked for words: those of their request, each once and in its order, perhaps none or not the
--- second; and none for words that are no request.
-pub data PicksByWords (key : List ℕ) (words : List (List ℕ)) (before after : Option (List (List ℕ))) : Type 0 where
-  nothing_picked : after ≡ before → PicksByWords key words before after
-  files_picked : (named : FileNames) → IsRequest key words named → PicksFront before (both_names named) after →
-      PicksByWords key words before after

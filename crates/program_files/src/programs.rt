@@ -1,6 +1,7 @@
 //! Programs in files.
 ghost use Rattle.std.specs.Prelude.{◌≡◌, ℕ, IfOk, IsErrOf, Err};
 ghost use Rattle.tool_io.specs.Causes.{HasRisenAt, NoneFalls};
+ghost use Rattle.tool_io.specs.Files.{HasPicked};
 ghost use Rattle.stapl_lexer.specs.declared.reason.Reason.{Reason};
 ghost use Rattle.stapl_syntax.specs.Programs.{IsProgram, FirstFault};
 ghost use Rattle.stapl_syntax.specs.ProgramValues.{trees_of};
@@ -71,6 +72,7 @@ pub fn program_named<S: Shelf>(
     ensures fault { (piece line : ℕ) (reason : Reason) → result ≡ Err (refusals.Refused piece line reason) →
         ReadsProgramFault (S.told shelf.old) path.now piece line reason }
     ensures read { IsErrOf result ProgramNotRead.Read → HasRisenAt S.faults S.is_last path.now shelf.old shelf.new }
+    ensures once { HasPicked (S.picks shelf.old) path.now (S.picks shelf.new) result }
     ensures keeps { S.told shelf.new ≡ S.told shelf.old }
     ensures later { NoneFalls S.faults S.is_last shelf.old shelf.new }
 {

@@ -34,6 +34,10 @@ pub record OfFiles (names : List (Option (List ℕ)) → Type 0) (told : Option 
 abbrev pub NamesThis : List ℕ → List (Option (List ℕ)) → Type 0
 NamesThis path named = named ≡ Some path ∷ []
 
+-- the files of these two paths are named, in this order, and no other
+abbrev pub NamesTwo : List ℕ → List ℕ → List (Option (List ℕ)) → Type 0
+NamesTwo first second named = named ≡ Some first ∷ Some second ∷ []
+
 -- One file is named.
 pub record NamesOne (IsNamed : List ℕ → Type 0) (named : List (Option (List ℕ))) : Type 0 where
   pub path : List ℕ

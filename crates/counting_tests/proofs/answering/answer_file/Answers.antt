@@ -1,5 +1,6 @@
-use Rattle.std.proofs.Common.{Err, Some, ap, refl}
+use Rattle.std.proofs.Common.{Err, Some, ap, refl, rules}
 use Rattle.tool_frame.proofs.AnswerLemmas.{says_failed, said_text, said_front}
+use Rattle.tool_frame.proofs.FileLemmas.{shelf_of_read}
 use Rattle.named_files.proofs.BoardLemmas.{of_file_as, of_any_file}
 use Rattle.counting_tests.specs.Answers.{counted, refused}
 use Rattle.counting_tests.proofs.answering.answer_file.Goals as goal
@@ -30,3 +31,27 @@ returns-in-Err-Read-clause-says g c = of_any_file (g.S.Shelf.told c.args.shelf.n
 
 pub returns-in-Err-Memory-clause-says : goal.returns-in-Err-Memory-clause-says
 returns-in-Err-Memory-clause-says g c = of_any_file (g.S.Shelf.told c.args.shelf.now) (Some c.args.path.now) (λ held. (refl, refl))
+
+pub returns-in_err-put_devices-in-Ok-clause-shelf : goal.returns-in_err-put_devices-in-Ok-clause-shelf
+returns-in_err-put_devices-in-Ok-clause-shelf g c =
+    shelf_of_read c.board_named.result c.board_named.ensures.once c.board_named.ensures.keeps c.board_named.ensures.later (search rules)
+
+pub returns-in_err-put_board_refusal-in-Err-At-clause-shelf : goal.returns-in_err-put_board_refusal-in-Err-At-clause-shelf
+returns-in_err-put_board_refusal-in-Err-At-clause-shelf g c =
+    shelf_of_read c.board_named.result c.board_named.ensures.once c.board_named.ensures.keeps c.board_named.ensures.later (search rules)
+
+pub returns-in_ok-put_devices-in-Ok-clause-shelf : goal.returns-in_ok-put_devices-in-Ok-clause-shelf
+returns-in_ok-put_devices-in-Ok-clause-shelf g c =
+    shelf_of_read c.board_named.result c.board_named.ensures.once c.board_named.ensures.keeps c.board_named.ensures.later (search rules)
+
+pub returns-in_ok-put_board_refusal-in-Err-At-clause-shelf : goal.returns-in_ok-put_board_refusal-in-Err-At-clause-shelf
+returns-in_ok-put_board_refusal-in-Err-At-clause-shelf g c =
+    shelf_of_read c.board_named.result c.board_named.ensures.once c.board_named.ensures.keeps c.board_named.ensures.later (search rules)
+
+pub returns-in-Err-Read-clause-shelf : goal.returns-in-Err-Read-clause-shelf
+returns-in-Err-Read-clause-shelf g c =
+    shelf_of_read c.board_named.result c.board_named.ensures.once c.board_named.ensures.keeps c.board_named.ensures.later (search rules)
+
+pub returns-in-Err-Memory-clause-shelf : goal.returns-in-Err-Memory-clause-shelf
+returns-in-Err-Memory-clause-shelf g c =
+    shelf_of_read c.board_named.result c.board_named.ensures.once c.board_named.ensures.keeps c.board_named.ensures.later (search rules)

@@ -1,6 +1,6 @@
 use Rattle.std.proofs.Common.{ℕ, List, map, string_bytes, Global}
 use Rattle.tool_frame.proofs.AnswerLemmas.{says_within, says_failed, said_text, said_front}
-use Rattle.tool_frame.proofs.FileLemmas.{of_one_file, of_no_file}
+use Rattle.tool_frame.proofs.FileLemmas.{of_one_file, of_no_file, shelf_of_one}
 use Rattle.counting_tests.specs.declared.status.CountStatus.TheVariants.{Usage}
 use Rattle.counting_tests.specs.Words.{NamesBoard}
 use Rattle.counting_tests.specs.Answers.{usage, asked}
@@ -30,3 +30,7 @@ returns-in_ok-put_usage-in-None-clause-answers g c =
       says = said_text _ (usage c.in-None.ensures.none) c.in_ok-put_usage-in-None.ensures;
       left = tt;
     })
+
+pub returns-in-Some-clause-shelf : goal.returns-in-Some-clause-shelf
+returns-in-Some-clause-shelf g c =
+    shelf_of_one (NamesBoard (map (string_bytes {Z = Global}) c.args.words.now)) c.in-Some.path.now c.in-Some.ensures.some c.answer_file.ensures.shelf
