@@ -5,7 +5,7 @@ ghost use Rattle.tool_frame.specs.Files.{KeepsShelf};
 ghost use Rattle.tool_frame.specs.Frame.{SaysAndLeaves};
 ghost use Rattle.chain_sim.specs.Rack.{IsRack};
 ghost use Rattle.named_files.specs.Named.{files_named};
-ghost use Rattle.named_files.specs.Contents.{OfContents, IsReached};
+ghost use Rattle.named_files.specs.Contents.{OfContents, AreFilesOf, IsReached};
 ghost use Rattle.trace_tool.specs.Answers.{RequestAnswer};
 ghost use Rattle.trace_tool.specs.FinalRacks.{RequestHoldsLed, LeavesRack};
 
@@ -30,8 +30,8 @@ pub(crate) fn answer_request<S: Shelf, K: Sink>(
     ensures answers { OfContents (S.told shelf.old) (files_named named.entry) (λ contents. SaysAndLeaves K.Sink
         (RequestAnswer contents) (LeavesRack kind_of fitted (RequestHoldsLed contents))
         lines.old lines.new rack.old.items rack.new.items result) }
-    ensures shelf { KeepsShelf S.Shelf (IsReached (S.told shelf.old) (files_named named.entry))
-        shelf.old shelf.new result }
+    ensures shelf { KeepsShelf S.Shelf (AreFilesOf (files_named named.entry))
+        (IsReached (S.told shelf.old) (files_named named.entry)) shelf.old shelf.new result }
 {
     match board_named(alloc, shelf, named.board) {
         Ok(devices) => answer_file(alloc, &devices, named.file, shelf, rack, lines),

@@ -5,7 +5,7 @@ ghost use Rattle.tool_io.specs.Lines.{IsWhole};
 ghost use Rattle.tool_frame.specs.Answers.{Says};
 ghost use Rattle.board_text.specs.Boards.{CanBeFitted};
 ghost use Rattle.chain_sim.specs.Rack.{IsRack};
-ghost use Rattle.tool_frame.specs.Files.{OfFile, KeepsShelf};
+ghost use Rattle.tool_frame.specs.Files.{OfFile, NamesThis, KeepsShelf};
 ghost use Rattle.tool_frame.specs.Frame.{SaysAndLeaves};
 ghost use Rattle.trace_tool.specs.Answers.{TraceAnswer, FileAnswer};
 ghost use Rattle.trace_tool.specs.FinalRacks.{HoldsLed, HeldLed, KeepsRack, LeavesRack};
@@ -67,7 +67,7 @@ pub(crate) fn answer_file<S: Shelf, K: Sink>(
     ensures answers { OfFile (S.told shelf.old) (Some path.now) (λ held. SaysAndLeaves K.Sink
         (FileAnswer devices.now held) (LeavesRack kind_of fitted (HeldLed devices.now held))
         lines.old lines.new rack.old.items rack.new.items result) }
-    ensures shelf { KeepsShelf S.Shelf (λ read. read ≡ path.now) shelf.old shelf.new result }
+    ensures shelf { KeepsShelf S.Shelf (NamesThis path.now) (λ read. read ≡ path.now) shelf.old shelf.new result }
 {
     match read_whole(alloc, shelf, path, TRACE_LIMIT) {
         Ok(bytes) => compare(alloc, devices, &bytes, rack, lines),

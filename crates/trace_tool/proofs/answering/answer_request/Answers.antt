@@ -2,7 +2,7 @@ use Rattle.std.proofs.Common.{sym, ap, Err, refl, rules}
 use Rattle.named_files.proofs.BoardLemmas.{fault_is}
 use Rattle.tool_frame.specs.declared.no_answer.NoAnswer.TheVariants.{Memory}
 use Rattle.named_files.specs.Named.{files_named}
-use Rattle.named_files.proofs.ContentLemmas.{file_cause}
+use Rattle.named_files.proofs.ContentLemmas.{shelf_of_board, shelf_of_request}
 use Rattle.trace_tool.proofs.RequestLemmas.{request_of_file, board_failed, board_is_refused, no_board, no_board_memory}
 use Rattle.trace_tool.proofs.answering.answer_request.Goals as goal
 
@@ -10,15 +10,6 @@ pub returns-in-Ok-clause-answers : goal.returns-in-Ok-clause-answers
 returns-in-Ok-clause-answers g c =
     request_of_file g.K.Sink _ _ _ _ _ _ (g.S.Shelf.told c.args.shelf.now) (files_named c.args.named) c.answer_file.result c.in-Ok.devices.items
     c.in-Ok.ensures.board (rw (c.deref.ensures.value, c.in-Ok.ensures.keeps) at c.answer_file.ensures.answers)
-
-pub returns-in-Ok-clause-shelf : goal.returns-in-Ok-clause-shelf
-returns-in-Ok-clause-shelf g c = record {
-  keeps = search rules;
-  later = search rules;
-  read = λ e.
-      file_cause _ _ _ (files_named c.args.named) c.in-Ok.devices.items (g.S.Shelf.told c.args.shelf.now)
-      c.in-Ok.ensures.board c.in-Ok.ensures.later (c.answer_file.ensures.shelf.read e);
-}
 
 pub returns-in_err-put_board_refusal-in-Err-At-clause-answers : goal.returns-in_err-put_board_refusal-in-Err-At-clause-answers
 returns-in_err-put_board_refusal-in-Err-At-clause-answers g c =
@@ -42,3 +33,23 @@ returns-in-Err-Read-clause-answers g c = no_board (g.S.Shelf.told c.args.shelf.n
 
 pub returns-in-Err-Memory-clause-answers : goal.returns-in-Err-Memory-clause-answers
 returns-in-Err-Memory-clause-answers g c = no_board_memory (g.S.Shelf.told c.args.shelf.now) (files_named c.args.named) (Err Memory) refl
+
+pub returns-in-Ok-clause-shelf : goal.returns-in-Ok-clause-shelf
+returns-in-Ok-clause-shelf g c =
+    shelf_of_request (files_named c.args.named) c.in-Ok.ensures.board c.in-Ok.ensures.once c.in-Ok.ensures.keeps c.in-Ok.ensures.later c.answer_file.ensures.shelf
+
+pub returns-in_err-put_board_refusal-in-Err-At-clause-shelf : goal.returns-in_err-put_board_refusal-in-Err-At-clause-shelf
+returns-in_err-put_board_refusal-in-Err-At-clause-shelf g c =
+    shelf_of_board c.board_named.result (files_named c.args.named) c.board_named.ensures.once c.board_named.ensures.keeps c.board_named.ensures.later (search rules)
+
+pub returns-in_ok-put_board_refusal-in-Err-At-clause-shelf : goal.returns-in_ok-put_board_refusal-in-Err-At-clause-shelf
+returns-in_ok-put_board_refusal-in-Err-At-clause-shelf g c =
+    shelf_of_board c.board_named.result (files_named c.args.named) c.board_named.ensures.once c.board_named.ensures.keeps c.board_named.ensures.later (search rules)
+
+pub returns-in-Err-Read-clause-shelf : goal.returns-in-Err-Read-clause-shelf
+returns-in-Err-Read-clause-shelf g c =
+    shelf_of_board c.board_named.result (files_named c.args.named) c.board_named.ensures.once c.board_named.ensures.keeps c.board_named.ensures.later (search rules)
+
+pub returns-in-Err-Memory-clause-shelf : goal.returns-in-Err-Memory-clause-shelf
+returns-in-Err-Memory-clause-shelf g c =
+    shelf_of_board c.board_named.result (files_named c.args.named) c.board_named.ensures.once c.board_named.ensures.keeps c.board_named.ensures.later (search rules)
