@@ -3,7 +3,7 @@ ghost use Rattle.std.specs.Prelude.{◌≡◌, ◌≤◌, Some, length};
 ghost use Rattle.trace_check.specs.Limits.{trace_limit};
 ghost use Rattle.tool_io.specs.Lines.{IsWhole, IsSilent};
 ghost use Rattle.tool_frame.specs.Answers.{Says};
-ghost use Rattle.tool_frame.specs.Files.{OfFile, KeepsShelf};
+ghost use Rattle.tool_frame.specs.Files.{OfFile, NamesThis, KeepsShelf};
 ghost use Rattle.wave_tool.specs.Answers.{WaveAnswer, FileAnswer};
 
 use crate::WaveStatus;
@@ -42,7 +42,7 @@ pub(crate) fn answer_file<S: Shelf, K: Sink>(
     requires { IsWhole lines.old }
     ensures says { OfFile (S.told shelf.old) (Some path.now) (λ held.
         Says K.Sink (FileAnswer held) (IsSilent lines.old lines.new) lines.old lines.new result) }
-    ensures shelf { KeepsShelf S.Shelf (λ read. read ≡ path.now) shelf.old shelf.new result }
+    ensures shelf { KeepsShelf S.Shelf (NamesThis path.now) (λ read. read ≡ path.now) shelf.old shelf.new result }
 {
     match read_whole(alloc, shelf, path, TRACE_LIMIT) {
         Ok(bytes) => answer_text(&bytes, lines),
