@@ -5,6 +5,7 @@ use Rattle.tool_io.specs.declared.outside.Shelf.{Ghosts as ShelfOf}
 use Rattle.command_words.proofs.ValueLemmas.{one_path, one_number}
 use Rattle.tool_frame.specs.declared.no_answer.NoAnswer.{NoAnswer}
 use Rattle.tool_frame.specs.Files.{OfFiles, NamesOne, KeepsShelf}
+use Rattle.tool_frame.proofs.FileLemmas.{shelf_within}
 use Rattle.tool_questions.specs.Questions.{FileQuestion, question_word, IsFileNamed, IsPartAsked, IsMoreUsage, IsFileUsage, no_file, after_file, AreFileUsage, IsNumberUsage, no_number, after_number, HasPartUsage, NamesQuestionFile, IsAskedOf}
 use Rattle.tool_questions.proofs.WordLemmas.{same_rest, same_question}
 
@@ -75,14 +76,11 @@ module _ (words rest : List (List ℕ)) (question : FileQuestion) (begins : word
     holds = f o.contents o.holds;
   }
 
-  pub shelf_of_asked : {S T : Type 0} {shelf : ShelfOf S} {before after : S} {r : Result T NoAnswer} → KeepsShelf shelf (NamesQuestionFile question rest) before after r →
-      KeepsShelf shelf (IsAskedOf words) before after r
-  shelf_of_asked kept = record {
-    keeps = kept.keeps;
-    later = kept.later;
-    read = λ failed. let cause = kept.read failed in record {
-      path = cause.path;
-      is_reached = record { question = question; rest = rest; words_are = begins; names = cause.is_reached };
-      rose = cause.rose;
-    };
-  }
+  asked_as : (path : List ℕ) → NamesQuestionFile question rest path → IsAskedOf words path
+  asked_as path is = record { question = question; rest = rest; words_are = begins; names = is }
+
+  pub shelf_of_asked : {S T : Type 0} {shelf : ShelfOf S} {before after : S} {r : Result T NoAnswer} →
+      KeepsShelf shelf (NamesOne (NamesQuestionFile question rest)) (NamesQuestionFile question rest) before after r →
+      KeepsShelf shelf (NamesOne (IsAskedOf words)) (IsAskedOf words) before after r
+  shelf_of_asked kept =
+      shelf_within (λ named n. record { path = n.path; is = asked_as n.path n.is; alone = n.alone }) asked_as kept

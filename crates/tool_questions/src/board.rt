@@ -2,7 +2,7 @@
 ghost use Rattle.std.specs.Prelude.{◌≡◌, ◌≤◌, None, Some, map, length, string_bytes, IfOk};
 ghost use Rattle.tool_io.specs.Lines.{IsWhole, IsSilent};
 ghost use Rattle.tool_frame.specs.Answers.{Says};
-ghost use Rattle.tool_frame.specs.Files.{OfFile, OfFiles, NamesOne, first_of, KeepsShelf};
+ghost use Rattle.tool_frame.specs.Files.{OfFile, OfFiles, NamesThis, NamesOne, first_of, KeepsShelf};
 ghost use Rattle.board_text.specs.Boards.{most_bytes};
 ghost use Rattle.tool_questions.specs.BoardLines.{numbered_line, FaultAt, why_faulty, IsLongBoardAnswer, LineAnswer, CheckAnswer};
 ghost use Rattle.tool_questions.specs.BoardLines.{HeldLineAnswer, HeldCheckAnswer};
@@ -146,7 +146,7 @@ fn answer_file<S: Shelf, K: Sink>(
     requires { IsWhole lines.old }
     ensures says { OfFile (S.told shelf.old) (Some path.now) (λ held.
         Says K.Sink (HeldLineAnswer number held) (IsSilent lines.old lines.new) lines.old lines.new result) }
-    ensures shelf { KeepsShelf S.Shelf (λ read. read ≡ path.now) shelf.old shelf.new result }
+    ensures shelf { KeepsShelf S.Shelf (NamesThis path.now) (λ read. read ≡ path.now) shelf.old shelf.new result }
 {
     match read_whole(alloc, shelf, path, MOST_BYTES as u32) {
         Ok(bytes) => answer_text(alloc, &bytes, number, lines),
@@ -166,7 +166,7 @@ fn check_file<S: Shelf, K: Sink>(
     requires { IsWhole lines.old }
     ensures says { OfFile (S.told shelf.old) (Some path.now) (λ held.
         Says K.Sink (HeldCheckAnswer held) (IsSilent lines.old lines.new) lines.old lines.new result) }
-    ensures shelf { KeepsShelf S.Shelf (λ read. read ≡ path.now) shelf.old shelf.new result }
+    ensures shelf { KeepsShelf S.Shelf (NamesThis path.now) (λ read. read ≡ path.now) shelf.old shelf.new result }
 {
     match read_whole(alloc, shelf, path, MOST_BYTES as u32) {
         Ok(bytes) => check_text(alloc, &bytes, lines),
@@ -193,7 +193,8 @@ pub(crate) fn ask_line<S: Shelf, K: Sink>(
     ensures says { OfFiles (NamesOne (NamesQuestionFile of_line (map string_bytes rest.now))) (S.told shelf.old) (λ contents.
         Says K.Sink (FileQuestionAnswer of_line (first_of contents) (map string_bytes rest.now)) (IsSilent lines.old lines.new)
         lines.old lines.new result) }
-    ensures shelf { KeepsShelf S.Shelf (NamesQuestionFile of_line (map string_bytes rest.now)) shelf.old shelf.new result }
+    ensures shelf { KeepsShelf S.Shelf (NamesOne (NamesQuestionFile of_line (map string_bytes rest.now)))
+        (NamesQuestionFile of_line (map string_bytes rest.now)) shelf.old shelf.new result }
 {
     match part_asked(rest, "board=") {
         Ok(asked) => answer_file(alloc, asked.path, asked.number, shelf, lines),
@@ -216,7 +217,8 @@ pub(crate) fn ask_board<S: Shelf, K: Sink>(
     ensures says { OfFiles (NamesOne (NamesQuestionFile of_board (map string_bytes rest.now))) (S.told shelf.old) (λ contents.
         Says K.Sink (FileQuestionAnswer of_board (first_of contents) (map string_bytes rest.now)) (IsSilent lines.old lines.new)
         lines.old lines.new result) }
-    ensures shelf { KeepsShelf S.Shelf (NamesQuestionFile of_board (map string_bytes rest.now)) shelf.old shelf.new result }
+    ensures shelf { KeepsShelf S.Shelf (NamesOne (NamesQuestionFile of_board (map string_bytes rest.now)))
+        (NamesQuestionFile of_board (map string_bytes rest.now)) shelf.old shelf.new result }
 {
     match path_asked(rest, "board=", 2) {
         Ok(path) => check_file(alloc, path, shelf, lines),

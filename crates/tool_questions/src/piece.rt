@@ -2,7 +2,7 @@
 ghost use Rattle.std.specs.Prelude.{◌≡◌, ◌≤◌, None, Some, map, length, string_bytes, IfSome, IfOk};
 ghost use Rattle.tool_io.specs.Lines.{IsWhole, IsSilent};
 ghost use Rattle.tool_frame.specs.Answers.{Says};
-ghost use Rattle.tool_frame.specs.Files.{OfFile, OfFiles, NamesOne, first_of, KeepsShelf};
+ghost use Rattle.tool_frame.specs.Files.{OfFile, OfFiles, NamesThis, NamesOne, first_of, KeepsShelf};
 ghost use Rattle.stapl_lexer.specs.Pieces.{LiesIn, text_limit};
 ghost use Rattle.tool_questions.specs.Pieces.{why_refused, IsReport, PieceAnswer, IsLongAnswer, HeldPieceAnswer};
 ghost use Rattle.tool_questions.specs.Questions.{of_piece, FileQuestionAnswer, NamesQuestionFile};
@@ -129,7 +129,7 @@ fn answer_piece<S: Shelf, K: Sink>(
     requires { IsWhole lines.old }
     ensures says { OfFile (S.told shelf.old) (Some path.now) (λ held.
         Says K.Sink (HeldPieceAnswer number held) (IsSilent lines.old lines.new) lines.old lines.new result) }
-    ensures shelf { KeepsShelf S.Shelf (λ read. read ≡ path.now) shelf.old shelf.new result }
+    ensures shelf { KeepsShelf S.Shelf (NamesThis path.now) (λ read. read ≡ path.now) shelf.old shelf.new result }
 {
     match read_whole(alloc, shelf, path, TEXT_LIMIT as u32) {
         Ok(bytes) => answer_text(alloc, &bytes, number, lines),
@@ -156,7 +156,8 @@ pub(crate) fn ask_piece<S: Shelf, K: Sink>(
     ensures says { OfFiles (NamesOne (NamesQuestionFile of_piece (map string_bytes rest.now))) (S.told shelf.old) (λ contents.
         Says K.Sink (FileQuestionAnswer of_piece (first_of contents) (map string_bytes rest.now)) (IsSilent lines.old lines.new)
         lines.old lines.new result) }
-    ensures shelf { KeepsShelf S.Shelf (NamesQuestionFile of_piece (map string_bytes rest.now)) shelf.old shelf.new result }
+    ensures shelf { KeepsShelf S.Shelf (NamesOne (NamesQuestionFile of_piece (map string_bytes rest.now)))
+        (NamesQuestionFile of_piece (map string_bytes rest.now)) shelf.old shelf.new result }
 {
     match part_asked(rest, "program=") {
         Ok(asked) => answer_piece(alloc, asked.path, asked.number, shelf, lines),

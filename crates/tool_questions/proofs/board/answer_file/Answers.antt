@@ -1,8 +1,9 @@
-use Rattle.std.proofs.Common.{ap, Err, Some, refl}
+use Rattle.std.proofs.Common.{ap, Err, Some, refl, rules}
 use Rattle.board_text.specs.Boards.{most_bytes}
 use Rattle.tool_frame.proofs.AnswerLemmas.{says_within}
 use Rattle.named_files.proofs.BoardLemmas.{of_whole_file, of_long_file, of_file_as, of_any_file}
 use Rattle.tool_questions.proofs.LineLemmas.{long_line_within}
+use Rattle.tool_frame.proofs.FileLemmas.{shelf_of_read}
 use Rattle.tool_questions.proofs.board.answer_file.Goals as goal
 
 pub returns-in-Ok-clause-says : goal.returns-in-Ok-clause-says
@@ -20,3 +21,19 @@ returns-in-Err-ReadFault-clause-says g c = of_any_file (g.S.Shelf.told c.args.sh
 
 pub returns-in-Err-Memory-clause-says : goal.returns-in-Err-Memory-clause-says
 returns-in-Err-Memory-clause-says g c = of_any_file (g.S.Shelf.told c.args.shelf.now) (Some c.args.path.now) (λ held. (refl, refl))
+
+pub returns-in-Ok-clause-shelf : goal.returns-in-Ok-clause-shelf
+returns-in-Ok-clause-shelf g c =
+    shelf_of_read c.read_whole.result c.read_whole.ensures.once c.read_whole.ensures.keeps c.read_whole.ensures.later (search rules)
+
+pub returns-in-Err-TooLong-clause-shelf : goal.returns-in-Err-TooLong-clause-shelf
+returns-in-Err-TooLong-clause-shelf g c =
+    shelf_of_read c.read_whole.result c.read_whole.ensures.once c.read_whole.ensures.keeps c.read_whole.ensures.later (search rules)
+
+pub returns-in-Err-ReadFault-clause-shelf : goal.returns-in-Err-ReadFault-clause-shelf
+returns-in-Err-ReadFault-clause-shelf g c =
+    shelf_of_read c.read_whole.result c.read_whole.ensures.once c.read_whole.ensures.keeps c.read_whole.ensures.later (search rules)
+
+pub returns-in-Err-Memory-clause-shelf : goal.returns-in-Err-Memory-clause-shelf
+returns-in-Err-Memory-clause-shelf g c =
+    shelf_of_read c.read_whole.result c.read_whole.ensures.once c.read_whole.ensures.keeps c.read_whole.ensures.later (search rules)
