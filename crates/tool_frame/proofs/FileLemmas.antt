@@ -38,7 +38,7 @@ of_no_file told IsNamed none q = record { contents = []; read = λ named n. absu
 -- ---- picks
 
 -- the same picks, if what is named is named by another rule, too
-picks_within : {P Q : List (Option (List ℕ)) → Type 0} {before after : Option (List (List ℕ))} → ((named : List (Option (List ℕ))) → P named → Q named) →
+pub picks_within : {P Q : List (Option (List ℕ)) → Type 0} {before after : Option (List (List ℕ))} → ((named : List (Option (List ℕ))) → P named → Q named) →
     PicksNamed P before after → PicksNamed Q before after
 picks_within f (nothing_picked same) = nothing_picked same
 picks_within f (files_picked named is front) = files_picked named (f named is) front

@@ -55,7 +55,8 @@ pub trait Tool {
     fn exit_code(&self, ending: Self::Ending) -> u8
         ensures { result ≡ exit_code_of ending };
 
-    /// Puts the answer to the words. Nothing waits in the lines yet.
+    /// Puts the answer to the words. Nothing waits in the lines yet. Of the files that the words name it picks only some
+    /// in front, each once and in their order, and no other file.
     ///
     /// `Read` comes only if the count of a file rose that was reached, `Write` only if the count of the sink rose, each
     /// also if its count stands at its last value; `Memory` is want of memory. At `Read` and `Memory` nothing has
