@@ -1,11 +1,16 @@
--- On the contents of the files of a request: the board comes first, and what is played after it.
+-- On the contents of the files of a request, and on what is kept of their store: the board comes first, and what is
+-- played after it.
 use Rattle.std.proofs.Common.{◌≡◌, ◌∙◌, ◌⊎◌, inl, inr, ℕ, List, [], ◌∷◌, map, Option, None, Some, IfSome, refl, sym, ap, subst}
-use Rattle.tool_io.specs.Causes.{NoneFalls}
-use Rattle.tool_io.proofs.CauseLemmas.{rose_after_at}
+use Rattle.std.specs.Prelude.{Result, IsErrOf}
+use Rattle.tool_io.specs.Causes.{HasRisenAt, NoneFalls}
+use Rattle.tool_io.specs.Files.{then_names, HasPicked}
 use Rattle.dev_card.specs.declared.desc.Desc.{Desc}
 use Rattle.dev_card.specs.Sound.{SoundCard}
 use Rattle.tool_io.specs.declared.outside.Shelf.{Ghosts as ShelfOf}
-use Rattle.tool_frame.specs.Files.{file_named, AreRead, OfFile, OfFiles, HasReadCause}
+use Rattle.tool_frame.specs.declared.no_answer.NoAnswer.{NoAnswer}
+use Rattle.tool_frame.specs.declared.no_answer.NoAnswer.TheVariants.{Read}
+use Rattle.tool_frame.specs.Files.{file_named, AreRead, OfFile, OfFiles, NamesThis, NamesTwo, KeepsShelf}
+use Rattle.tool_frame.proofs.FileLemmas.{shelf_within, shelf_of_first, shelf_of_both}
 use Rattle.tool_frame.proofs.AnswerLemmas.{IsWithin}
 use Rattle.named_files.specs.Boards.{HasBoard, ReadsBoard}
 use Rattle.play_words.specs.declared.requests.FilePlay.{FilePlay}
@@ -16,7 +21,7 @@ use Rattle.play_words.proofs.EveryWords.{request_or_usage}
 use Rattle.play_words.specs.declared.status.Status.{Status}
 use Rattle.play_tool.specs.Answers.{RequestAnswer, WordsAnswer, usage, asked, contents_in}
 use Rattle.play_tool.specs.FinalRacks.{RequestHoldsFinal, WordsHoldFinal}
-use Rattle.play_tool.specs.ReadContents.{ArePlayFiles, AreFilesOf, NamesFiles, OfWords, HoldsBoard, IsPlayFile, source_reached, IsReached, IsReachedBy}
+use Rattle.play_tool.specs.ReadContents.{ArePlayFiles, AreFilesOf, NamesFiles, OfWords, HoldsBoard, IsPlayFile, board_reached, source_reached, IsReached, IsReachedBy}
 
 -- What was read.
 
@@ -102,7 +107,7 @@ pub words_final : {words : List (List ℕ)} {request : Request} (contents : List
     RequestHoldsFinal request contents rack → WordsHoldFinal words contents rack
 words_final {request = request} contents asks rack final = record { request = request; asked = asks; final = final }
 
--- Which file was reached.
+-- What is kept of the store.
 
 -- the board that was read is the one that the store holds
 holds_board : (path : List ℕ) (devices : List Desc) (told : Option (List (List ℕ × List ℕ))) → ReadsBoard told path devices → IfSome told (HoldsBoard path)
@@ -112,21 +117,35 @@ holds_board path devices (Some files) reads = record {
   board = subst (λ (h : Option (List ℕ)). HasBoard h devices) (sym (reads.read).same) reads.holds;
 }
 
--- what is played could not be read after a board that is right
-pub source_cause : {S : Type 0} {shelf : ShelfOf S} (before between after : S) (play : FilePlay) (devices : List Desc)
-    (told : Option (List (List ℕ × List ℕ))) (board source : List ℕ) → board ≡ play.board → source ≡ play.source → ReadsBoard told board devices →
-    NoneFalls shelf.faults shelf.is_last before between → HasReadCause shelf (λ read. read ≡ source) between after → HasReadCause shelf (IsPlayFile told play) before after
-source_cause before between after play devices told board source b s reads kept c = record {
-  path = c.path;
-  is_reached = source_reached (c.is_reached ∙ s) (subst (λ (p : List ℕ). IfSome told (HoldsBoard p)) b (holds_board board devices told reads));
-  rose = rose_after_at kept c.rose;
-}
+-- what is kept of the store if the board was read, and it is no board, or perhaps not read after a failure
+module _ {S T R E : Type 0} {shelf : ShelfOf S} {before after : S} {q : Result T NoAnswer} (r : Result R E) where
+  pub shelf_of_board : (play : FilePlay) {board : List ℕ} → board ≡ play.board → HasPicked (shelf.picks before) board (shelf.picks after) r →
+      shelf.told after ≡ shelf.told before → NoneFalls shelf.faults shelf.is_last before after →
+      (IsErrOf q Read → HasRisenAt shelf.faults shelf.is_last board before after) →
+      KeepsShelf shelf (ArePlayFiles play) (IsPlayFile (shelf.told before) play) before after q
+  shelf_of_board play b once keeps later read =
+      subst (λ (path : List ℕ). KeepsShelf shelf (NamesTwo path play.source) (IsPlayFile (shelf.told before) play) before after q) b
+      (shelf_of_first r (board_reached b) once keeps later read)
 
--- A file of the request that was reached is one of the words.
-pub reached_by : {S : Type 0} {shelf : ShelfOf S} {before after : S}
-    {told : Option (List (List ℕ × List ℕ))} {words : List (List ℕ)} {request : Request} → IsRequest words request →
-    HasReadCause shelf (IsReached told request) before after → HasReadCause shelf (IsReachedBy told words) before after
-reached_by {request = request} asks c = record { path = c.path; is_reached = record { request = request; asked = asks; reached = c.is_reached }; rose = c.rose }
+-- and if it is right, and after it what is played was perhaps read
+pub shelf_of_play : {S T : Type 0} {shelf : ShelfOf S} {before mid after : S} {q : Result T NoAnswer} (play : FilePlay) {devices : List Desc} {board source : List ℕ} →
+    board ≡ play.board → source ≡ play.source → ReadsBoard (shelf.told before) board devices → shelf.picks mid ≡ then_names (shelf.picks before) (board ∷ []) →
+    shelf.told mid ≡ shelf.told before → NoneFalls shelf.faults shelf.is_last before mid → KeepsShelf shelf (NamesThis source) (λ read. read ≡ source) mid after q →
+    KeepsShelf shelf (ArePlayFiles play) (IsPlayFile (shelf.told before) play) before after q
+shelf_of_play {shelf = shelf} {before = before} {after = after} {q = q} play {devices = devices} {board = board} b s reads once keeps later kept =
+    let told : Option (List (List ℕ × List ℕ)) = shelf.told before in
+    let held : IfSome told (HoldsBoard play.board) = subst (λ (p : List ℕ). IfSome told (HoldsBoard p)) b (holds_board board devices told reads) in
+    subst (λ (path : List ℕ). KeepsShelf shelf (NamesTwo path play.source) (IsPlayFile told play) before after q) b
+    (subst (λ (path : List ℕ). KeepsShelf shelf (NamesTwo board path) (IsPlayFile told play) before after q) s
+    (shelf_of_both (source_reached s held) once keeps later kept))
+
+-- the files of the request are those of the words
+pub shelf_of_words : {S T : Type 0} {shelf : ShelfOf S} {before after : S} {q : Result T NoAnswer} {told : Option (List (List ℕ × List ℕ))} {words : List (List ℕ)}
+    {request : Request} → IsRequest words request → KeepsShelf shelf (AreFilesOf request) (IsReached told request) before after q →
+    KeepsShelf shelf (NamesFiles words) (IsReachedBy told words) before after q
+shelf_of_words {request = request} asks kept =
+    shelf_within (λ named are. record { request = request; asked = asks; are = are }) (λ path reached. record { request = request; asked = asks; reached = reached })
+    kept
 
 -- A usage number, by an equal one.
 pub usage_is : {words : List (List ℕ)} {n m : ℕ} → n ≡ m → IsUsage words n → IsUsage words m

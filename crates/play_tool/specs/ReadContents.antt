@@ -67,7 +67,7 @@ pub record IsReachedBy (told : Option (List (List ℕ × List ℕ))) (words : Li
 -- A play for a run of devices of a board does what the play on that run alone does, if this is quiet for all its turns
 -- and no clocks are asked for: text, status, and what the devices of the run hold then. What is written of a play of a
 -- code that a program was compiled to, and its status, are those of the play of that program. If the clocks of a play
--- of a program are asked for, its text is a trace of its board.
+-- are asked for, of a program or of a code, its text is a trace of its board.
 pub record Answered (answers : List ℕ → Status → Type 0) (words : List (List ℕ)) (contents : List (Option (List ℕ)))
     (before after : Option (List ℕ)) (status : Status) (rack : List (Option SoundCard)) : Type 0 where
   pub wrote : Wrote answers before after status

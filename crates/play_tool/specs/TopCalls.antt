@@ -1,9 +1,9 @@
 -- What a top call says of its faults, and what it keeps, whatever it answers. The rules are this tool's own.
-use Rattle.std.specs.Prelude.{◌≡◌, ℕ, List, map}
+use Rattle.std.specs.Prelude.{◌≡◌, ℕ, List, map, Option}
 use Rattle.tool_io.specs.Causes.{HasRisen, NeverFalls, NoneFalls}
 use Rattle.tool_io.specs.declared.outside.Shelf.{Ghosts as ShelfOf}
 use Rattle.tool_io.specs.declared.outside.Sink.{Ghosts as SinkOf}
-use Rattle.tool_frame.specs.Files.{HasReadCause}
+use Rattle.tool_frame.specs.Files.{PicksNamed, HasReadCause}
 use Rattle.play_words.specs.declared.status.Status.{Status}
 use Rattle.play_words.specs.Statuses.{ComesBeforeFitting}
 
@@ -18,8 +18,11 @@ pub record HasFailedWrite {K : Type 0} (sink : SinkOf K) (before after : K) (Fro
   pub cause : HasRisen sink.faults sink.is_last before after
   pub front : Front
 
--- The files stay, and no count falls.
-pub record KeepsOutside {S K : Type 0} (shelf : ShelfOf S) (sink : SinkOf K) (before after : S) (out_before out_after : K) : Type 0 where
+-- Of the files that are named only some in front are opened, each once and in their order, and no other is. The files
+-- stay, and no count falls.
+pub record KeepsOutside {S K : Type 0} (shelf : ShelfOf S) (sink : SinkOf K) (names : List (Option (List ℕ)) → Type 0)
+    (before after : S) (out_before out_after : K) : Type 0 where
+  pub once : PicksNamed names (shelf.picks before) (shelf.picks after)
   pub files : shelf.told after ≡ shelf.told before
   pub of_files : NoneFalls shelf.faults shelf.is_last before after
   pub of_sink : NeverFalls sink.faults sink.is_last out_before out_after

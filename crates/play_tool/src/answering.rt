@@ -35,7 +35,7 @@ fn answer_play<S: Shelf, K: Sink>(
         (LeavesRack kind_of fitted (Unit {0})
         (PlayHoldsFinal source play.now.request (first_of contents) (second_of contents)))
         lines.old lines.new rack.old.items rack.new.items result) }
-    ensures shelf { KeepsShelf S.Shelf (IsPlayFile (S.told shelf.old) play.now)
+    ensures shelf { KeepsShelf S.Shelf (ArePlayFiles play.now) (IsPlayFile (S.told shelf.old) play.now)
         shelf.old shelf.new result }
 {
     match board_named(alloc, shelf, play.board.as_str()) {
@@ -78,7 +78,7 @@ pub(crate) fn answer_request<S: Shelf, K: Sink>(
         (RequestAnswer request.now contents)
         (LeavesRack kind_of fitted (IsPlaying request.now) (RequestHoldsFinal request.now contents))
         lines.old lines.new rack.old.items rack.new.items result) }
-    ensures shelf { KeepsShelf S.Shelf (IsReached (S.told shelf.old) request.now)
+    ensures shelf { KeepsShelf S.Shelf (AreFilesOf request.now) (IsReached (S.told shelf.old) request.now)
         shelf.old shelf.new result }
 {
     match request {

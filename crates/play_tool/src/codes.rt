@@ -1,6 +1,7 @@
 //! Codes in files.
 ghost use Rattle.std.specs.Prelude.{◌≡◌, ℕ, IfOk, IsErrOf, Err};
 ghost use Rattle.tool_io.specs.Causes.{HasRisenAt, NoneFalls};
+ghost use Rattle.tool_io.specs.Files.{HasPicked};
 ghost use Rattle.stapl_code.specs.declared.reason.CodeReason.{CodeReason};
 ghost use Rattle.play_tool.specs.declared.codes.CodeNotRead.TheVariants as refusals;
 ghost use Rattle.play_tool.specs.CodesInFiles.{ReadsCode, ReadsCodeFault};
@@ -31,6 +32,7 @@ pub fn code_named<S: Shelf>(alloc: Global, shelf: &mut S, path: &str) -> Result<
     ensures fault { (offset : ℕ) (reason : CodeReason) → result ≡ Err (refusals.At offset reason) →
         ReadsCodeFault (S.told shelf.old) path.now offset reason }
     ensures read { IsErrOf result CodeNotRead.Read → HasRisenAt S.faults S.is_last path.now shelf.old shelf.new }
+    ensures once { HasPicked (S.picks shelf.old) path.now (S.picks shelf.new) result }
     ensures keeps { S.told shelf.new ≡ S.told shelf.old }
     ensures later { NoneFalls S.faults S.is_last shelf.old shelf.new }
 {

@@ -2,7 +2,7 @@
 ghost use Rattle.std.specs.Prelude.{◌≡◌, Some, map};
 ghost use Rattle.tool_io.specs.Lines.{IsWhole, IsSilent};
 ghost use Rattle.tool_frame.specs.Answers.{Says};
-ghost use Rattle.tool_frame.specs.Files.{OfFile, KeepsShelf};
+ghost use Rattle.tool_frame.specs.Files.{OfFile, NamesThis, KeepsShelf};
 ghost use Rattle.tool_frame.specs.Frame.{SaysAndLeaves};
 ghost use Rattle.board_text.specs.Boards.{CanBeFitted};
 ghost use Rattle.chain_sim.specs.Rack.{IsRack};
@@ -48,7 +48,7 @@ fn play_program_file<S: Shelf, K: Sink>(
         (LeavesRack kind_of fitted (Unit {0})
         (HeldFinal (SourceHoldsFinal OfProgram task.now.request.now task.now.devices.now) held))
         lines.old lines.new rack.old.items rack.new.items result) }
-    ensures shelf { KeepsShelf S.Shelf (λ read. read ≡ path.now) shelf.old shelf.new result }
+    ensures shelf { KeepsShelf S.Shelf (NamesThis path.now) (λ read. read ≡ path.now) shelf.old shelf.new result }
 {
     match program_named(alloc, shelf, path) {
         Ok(program) => play_program(alloc, &program, task, rack, lines),
@@ -84,7 +84,7 @@ fn play_code_file<S: Shelf, K: Sink>(
         (LeavesRack kind_of fitted (Unit {0})
         (HeldFinal (SourceHoldsFinal OfCode task.now.request.now task.now.devices.now) held))
         lines.old lines.new rack.old.items rack.new.items result) }
-    ensures shelf { KeepsShelf S.Shelf (λ read. read ≡ path.now) shelf.old shelf.new result }
+    ensures shelf { KeepsShelf S.Shelf (NamesThis path.now) (λ read. read ≡ path.now) shelf.old shelf.new result }
 {
     match code_named(alloc, shelf, path) {
         Ok(code) => play_code(alloc, &code, task, rack, lines),
@@ -115,7 +115,7 @@ pub(crate) fn play_source<S: Shelf, K: Sink>(
         (LeavesRack kind_of fitted (Unit {0})
         (HeldFinal (SourceHoldsFinal source task.now.request.now task.now.devices.now) held))
         lines.old lines.new rack.old.items rack.new.items result) }
-    ensures shelf { KeepsShelf S.Shelf (λ read. read ≡ path.now) shelf.old shelf.new result }
+    ensures shelf { KeepsShelf S.Shelf (NamesThis path.now) (λ read. read ≡ path.now) shelf.old shelf.new result }
 {
     match source {
         Source::Program => play_program_file(alloc, task, path, shelf, rack, lines),
@@ -134,7 +134,7 @@ pub(crate) fn work_on_file<S: Shelf, K: Sink>(
     requires { IsWhole lines.old }
     ensures says { OfFile (S.told shelf.old) (Some path.now) (λ held.
         Says K.Sink (WorkAnswer work held) (IsSilent lines.old lines.new) lines.old lines.new result) }
-    ensures shelf { KeepsShelf S.Shelf (λ read. read ≡ path.now) shelf.old shelf.new result }
+    ensures shelf { KeepsShelf S.Shelf (NamesThis path.now) (λ read. read ≡ path.now) shelf.old shelf.new result }
 {
     match program_named(alloc, shelf, path) {
         Ok(program) => work_on(alloc, work, &program, lines),

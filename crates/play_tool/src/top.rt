@@ -5,7 +5,7 @@ ghost use Rattle.chain_sim.specs.Rack.{IsRack};
 ghost use Rattle.play_words.specs.Statuses.{IsFault};
 ghost use Rattle.play_tool.specs.Answers.{WordsAnswer};
 ghost use Rattle.play_tool.specs.FinalRacks.{AskForPlay};
-ghost use Rattle.play_tool.specs.ReadContents.{OfWords, IsReachedBy, Answered};
+ghost use Rattle.play_tool.specs.ReadContents.{NamesFiles, OfWords, IsReachedBy, Answered};
 ghost use Rattle.play_tool.specs.TopCalls.{HasFailedRead, HasFailedWrite, KeepsOutside, KeepsDevices};
 
 use crate::Player;
@@ -47,8 +47,10 @@ pub fn run_tool<S: Shelf, K: Sink>(
     // After want of memory nothing is written.
     ensures memory { result ≡ Status.Memory → K.written out.new ≡ K.written out.old }
 
-    // Whatever is answered, the files stay, and no count falls.
-    ensures kept { KeepsOutside S.Shelf K.Sink shelf.old shelf.new out.old out.new }
+    // Whatever is answered, only files that the words name are opened, each at most once, and the board first. The
+    // files stay, and no count falls.
+    ensures kept { KeepsOutside S.Shelf K.Sink (NamesFiles (map string_bytes words.now))
+        shelf.old shelf.new out.old out.new }
 
     // The rack stays as it was, if the cause of the status comes before the board is fitted, and if no play is asked
     // for. In any case each of its devices keeps its kind.

@@ -5,10 +5,9 @@ use Rattle.named_files.proofs.BoardLemmas.{fault_is}
 use Rattle.play_words.specs.Words.{play_files}
 use Rattle.play_words.specs.declared.status.Status.TheVariants.{BoardRefused}
 use Rattle.play_tool.specs.Answers.{board_refused}
-use Rattle.play_tool.specs.ReadContents.{board_reached}
 use Rattle.play_tool.proofs.AnswerLemmas.{board_of_devices}
 use Rattle.play_tool.proofs.FileLemmas.{left_failed, left_refused, left_unread, said_and_left_as}
-use Rattle.play_tool.proofs.RequestLemmas.{of_any_files, of_board, of_both, source_cause}
+use Rattle.play_tool.proofs.RequestLemmas.{of_any_files, of_board, of_both, shelf_of_board, shelf_of_play}
 use Rattle.play_tool.proofs.answering.answer_play.Goals as goal
 
 pub returns-in-Ok-clause-answers : goal.returns-in-Ok-clause-answers
@@ -18,15 +17,6 @@ returns-in-Ok-clause-answers g c =
     (rw (c.as_str-in-Ok.ensures, c.deref.ensures.value, c.in-Ok.ensures.keeps) at c.play_source.ensures.answers)
     (λ source a. said_and_left_as g.K.Sink c.play_source.result (board_of_devices c.in-Ok.devices.items board.holds) (λ p. p) (λ p. p)
     (λ rack final. record { devices = c.in-Ok.devices.items; is_board = board.holds; final = final }) a)
-
-pub returns-in-Ok-clause-shelf : goal.returns-in-Ok-clause-shelf
-returns-in-Ok-clause-shelf g c = record {
-  keeps = c.play_source.ensures.shelf.keeps ∙ c.in-Ok.ensures.keeps;
-  later = search rules;
-  read = λ e.
-      source_cause _ _ _ c.args.play.now c.in-Ok.devices.items (g.S.Shelf.told c.args.shelf.now) _ _ c.as_str.ensures c.as_str-in-Ok.ensures
-      c.in-Ok.ensures.board c.in-Ok.ensures.later (c.play_source.ensures.shelf.read e);
-}
 
 pub returns-in_err-put_board_refusal-in-Err-At-clause-answers : goal.returns-in_err-put_board_refusal-in-Err-At-clause-answers
 returns-in_err-put_board_refusal-in-Err-At-clause-answers g c =
@@ -51,13 +41,26 @@ pub returns-in-Err-Read-clause-answers : goal.returns-in-Err-Read-clause-answers
 returns-in-Err-Read-clause-answers g c =
     of_any_files (g.S.Shelf.told c.args.shelf.now) (play_files c.args.play.now) (λ contents. record { says = (refl, refl); left = left_unread Read })
 
-pub returns-in-Err-Read-clause-shelf : goal.returns-in-Err-Read-clause-shelf
-returns-in-Err-Read-clause-shelf g c = record {
-  keeps = search rules;
-  later = search rules;
-  read = λ _. record { path = c.as_str.result.now; is_reached = board_reached c.as_str.ensures; rose = c.in-Err-Read.ensures.read (ap Err c.in-Err-Read.field-0-is) };
-}
-
 pub returns-in-Err-Memory-clause-answers : goal.returns-in-Err-Memory-clause-answers
 returns-in-Err-Memory-clause-answers g c =
     of_any_files (g.S.Shelf.told c.args.shelf.now) (play_files c.args.play.now) (λ contents. record { says = (refl, refl); left = left_unread Memory })
+
+pub returns-in-Ok-clause-shelf : goal.returns-in-Ok-clause-shelf
+returns-in-Ok-clause-shelf g c =
+    shelf_of_play c.args.play.now c.as_str.ensures c.as_str-in-Ok.ensures c.in-Ok.ensures.board c.in-Ok.ensures.once c.in-Ok.ensures.keeps c.in-Ok.ensures.later c.play_source.ensures.shelf
+
+pub returns-in_err-put_board_refusal-in-Err-At-clause-shelf : goal.returns-in_err-put_board_refusal-in-Err-At-clause-shelf
+returns-in_err-put_board_refusal-in-Err-At-clause-shelf g c =
+    shelf_of_board c.board_named.result c.args.play.now c.as_str.ensures c.board_named.ensures.once c.board_named.ensures.keeps c.board_named.ensures.later (search rules)
+
+pub returns-in_ok-put_board_refusal-in-Err-At-clause-shelf : goal.returns-in_ok-put_board_refusal-in-Err-At-clause-shelf
+returns-in_ok-put_board_refusal-in-Err-At-clause-shelf g c =
+    shelf_of_board c.board_named.result c.args.play.now c.as_str.ensures c.board_named.ensures.once c.board_named.ensures.keeps c.board_named.ensures.later (search rules)
+
+pub returns-in-Err-Read-clause-shelf : goal.returns-in-Err-Read-clause-shelf
+returns-in-Err-Read-clause-shelf g c =
+    shelf_of_board c.board_named.result c.args.play.now c.as_str.ensures c.board_named.ensures.once c.board_named.ensures.keeps c.board_named.ensures.later (search rules)
+
+pub returns-in-Err-Memory-clause-shelf : goal.returns-in-Err-Memory-clause-shelf
+returns-in-Err-Memory-clause-shelf g c =
+    shelf_of_board c.board_named.result c.args.play.now c.as_str.ensures c.board_named.ensures.once c.board_named.ensures.keeps c.board_named.ensures.later (search rules)

@@ -8,7 +8,7 @@ use Rattle.play_tool.specs.Answers.{usage}
 use Rattle.play_tool.specs.FinalRacks.{IsPlaying, AskForPlay}
 use Rattle.play_tool.proofs.AnswerLemmas.{request_in_words}
 use Rattle.play_tool.proofs.FileLemmas.{left_failed, left_refused, left_unread, said_and_left_as}
-use Rattle.play_tool.proofs.RequestLemmas.{of_request, of_no_request, of_any_words, words_final, reached_by, usage_is}
+use Rattle.play_tool.proofs.RequestLemmas.{of_request, of_no_request, of_any_words, words_final, usage_is, shelf_of_words}
 use Rattle.play_tool.proofs.player.PlayerTool.answer.Goals as goal
 
 pub returns-in-Ok-clause-answers : goal.returns-in-Ok-clause-answers
@@ -21,13 +21,6 @@ returns-in-Ok-clause-answers g c =
     (λ (q : AskForPlay (map (string_bytes {Z = Global}) c.args.words.now)). subst IsPlaying (one_request q.asked asks) q.playing)
     (words_final contents asks) a in
     record { says = b.says; left = b.left })
-
-pub returns-in-Ok-clause-shelf : goal.returns-in-Ok-clause-shelf
-returns-in-Ok-clause-shelf g c = record {
-  keeps = c.answer_request.ensures.shelf.keeps;
-  later = c.answer_request.ensures.shelf.later;
-  read = λ e. reached_by c.in-Ok.ensures.request (c.answer_request.ensures.shelf.read e);
-}
 
 pub returns-in_err-put_usage-in-Err-Usage-clause-answers : goal.returns-in_err-put_usage-in-Err-Usage-clause-answers
 returns-in_err-put_usage-in-Err-Usage-clause-answers g c =
@@ -51,3 +44,7 @@ returns-in_ok-put_usage-in-Err-Usage-clause-answers g c =
 pub returns-in-Err-Memory-clause-answers : goal.returns-in-Err-Memory-clause-answers
 returns-in-Err-Memory-clause-answers g c =
     of_any_words (g.S.Shelf.told c.args.shelf.now) (map (string_bytes {Z = Global}) c.args.words.now) (λ contents. record { says = (refl, refl); left = left_unread Memory })
+
+pub returns-in-Ok-clause-shelf : goal.returns-in-Ok-clause-shelf
+returns-in-Ok-clause-shelf g c =
+    shelf_of_words c.in-Ok.ensures.request c.answer_request.ensures.shelf
