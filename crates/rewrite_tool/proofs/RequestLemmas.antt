@@ -3,7 +3,6 @@ use Rattle.std.proofs.Common.{◌≡◌, ℕ, List, Option, Some, Result, Ok, Er
 use Rattle.std.specs.Prelude.{IsErrAnd}
 use Rattle.tool_io.specs.declared.lines.Lines.{Lines}
 use Rattle.tool_io.specs.declared.outside.Sink.{Ghosts as SinkOf}
-use Rattle.tool_io.specs.declared.outside.Shelf.{Ghosts as ShelfOf}
 use Rattle.tool_io.specs.Lines.{IsSilent, Puts, PutsBroken}
 use Rattle.dev_card.specs.declared.desc.Desc.{Desc}
 use Rattle.board_text.specs.declared.reason.BoardReason.{BoardReason}
@@ -11,12 +10,12 @@ use Rattle.tool_frame.specs.declared.no_answer.NoAnswer.{NoAnswer}
 use Rattle.tool_frame.specs.declared.no_answer.NoAnswer.TheVariants.{Read, Write, Memory}
 use Rattle.tool_frame.specs.Answers.{Says}
 use Rattle.tool_frame.proofs.AnswerLemmas.{IsWithin, says_within, says_failed, says_no_memory, said_text, said_front}
-use Rattle.tool_frame.specs.Files.{OfFile, HasReadCause}
+use Rattle.tool_frame.specs.Files.{OfFile}
 use Rattle.named_files.specs.Boards.{HasBoard, ReadsBoard, ReadsBoardFault}
 use Rattle.named_files.specs.Texts.{board_refusal_line}
 use Rattle.named_files.specs.Words.{FileNames}
-use Rattle.named_files.specs.Contents.{Contents, contents_in, OfContents, OfAsked, IsReached, IsAskedAndReached}
-use Rattle.named_files.proofs.ContentLemmas.{both, of_any_contents, of_board, of_both, of_asked, of_none_asked, reached_asked}
+use Rattle.named_files.specs.Contents.{Contents, contents_in, OfContents, OfAsked}
+use Rattle.named_files.proofs.ContentLemmas.{both, of_any_contents, of_board, of_both, of_asked, of_none_asked}
 use Rattle.rewrite_tool.specs.declared.status.RewriteStatus.{RewriteStatus}
 use Rattle.rewrite_tool.specs.declared.status.RewriteStatus.TheVariants.{BoardRefused}
 use Rattle.rewrite_tool.specs.Words.{Request, IsRequest, Asks}
@@ -37,12 +36,6 @@ file_within request devices board program is = record { to = λ text status a. b
 pub of_no_request : (told : Option (List (List ℕ × List ℕ))) {words : List (List ℕ)} {Q : Contents → Type 0} → ((request : Request) → IsRequest words request → ⊥) →
     ((contents : Contents) → Q contents) → OfAsked (Asks words) told Q
 of_no_request told {words = words} none f = of_none_asked (Asks words) told (λ named asks. none (record { files = named; run = asks.0 }) asks.1) f
-
--- a file of the request that was reached is one of the words
-pub reached_by : {S : Type 0} {shelf : ShelfOf S} {before after : S} {told : Option (List (List ℕ × List ℕ))} {words : List (List ℕ)}
-    {request : Request} → IsRequest words request → HasReadCause shelf (IsReached told request.files) before after →
-    HasReadCause shelf (IsAskedAndReached (Asks words) told) before after
-reached_by {words = words} {request = request} asks c = reached_asked (Asks words) (request.run, asks) c
 
 in_told : (files : List (List ℕ × List ℕ)) (words : List (List ℕ)) (contents : Contents) {text : List ℕ} {status : RewriteStatus} →
     ((named : FileNames) → Asks words named → contents_in files named ≡ contents) →

@@ -5,7 +5,7 @@ ghost use Rattle.tool_frame.specs.Answers.{Says};
 ghost use Rattle.stapl_syntax.specs.Programs.{IsProgram};
 ghost use Rattle.stapl_syntax.specs.ProgramValues.{trees_of};
 ghost use Rattle.board_text.specs.Boards.{CanBeFitted};
-ghost use Rattle.tool_frame.specs.Files.{OfFile, KeepsShelf};
+ghost use Rattle.tool_frame.specs.Files.{OfFile, NamesThis, KeepsShelf};
 ghost use Rattle.rewrite_tool.specs.Words.{IsPlaceRun};
 ghost use Rattle.rewrite_tool.specs.Answers.{ProgramAnswer, FileAnswer};
 
@@ -69,7 +69,7 @@ pub(crate) fn answer_file<S: Shelf, K: Sink>(
     requires whole { IsWhole lines.old }
     ensures says { OfFile (S.told shelf.old) (Some path.now) (λ held. Says K.Sink
         (FileAnswer devices.now run held) (IsSilent lines.old lines.new) lines.old lines.new result) }
-    ensures shelf { KeepsShelf S.Shelf (λ read. read ≡ path.now) shelf.old shelf.new result }
+    ensures shelf { KeepsShelf S.Shelf (NamesThis path.now) (λ read. read ≡ path.now) shelf.old shelf.new result }
 {
     match program_named(alloc, shelf, path) {
         Ok(program) => put_rewritten(alloc, &program, devices, run, lines),

@@ -2,7 +2,7 @@
 ghost use Rattle.tool_io.specs.Lines.{IsWhole, IsSilent};
 ghost use Rattle.tool_frame.specs.Answers.{Says};
 ghost use Rattle.tool_frame.specs.Files.{KeepsShelf};
-ghost use Rattle.named_files.specs.Contents.{OfContents, IsReached};
+ghost use Rattle.named_files.specs.Contents.{OfContents, AreFilesOf, IsReached};
 ghost use Rattle.rewrite_tool.specs.Words.{IsPlaceRun};
 ghost use Rattle.rewrite_tool.specs.Named.{request_of};
 ghost use Rattle.rewrite_tool.specs.Answers.{RequestAnswer};
@@ -27,8 +27,8 @@ pub(crate) fn answer_request<S: Shelf, K: Sink>(
     ensures says { OfContents (S.told shelf.old) (request_of named.entry).files (λ contents. Says K.Sink
         (RequestAnswer (request_of named.entry) contents) (IsSilent lines.old lines.new)
         lines.old lines.new result) }
-    ensures shelf { KeepsShelf S.Shelf (IsReached (S.told shelf.old) (request_of named.entry).files)
-        shelf.old shelf.new result }
+    ensures shelf { KeepsShelf S.Shelf (AreFilesOf (request_of named.entry).files)
+        (IsReached (S.told shelf.old) (request_of named.entry).files) shelf.old shelf.new result }
 {
     match board_named(alloc, shelf, named.board) {
         Ok(devices) => answer_file(alloc, named.program, &devices, named.run, shelf, lines),

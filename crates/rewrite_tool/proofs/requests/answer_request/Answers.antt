@@ -1,7 +1,7 @@
 use Rattle.std.proofs.Common.{sym, ap, Err, refl, rules}
 use Rattle.named_files.proofs.BoardLemmas.{fault_is}
 use Rattle.tool_frame.specs.declared.no_answer.NoAnswer.TheVariants.{Memory}
-use Rattle.named_files.proofs.ContentLemmas.{file_cause}
+use Rattle.named_files.proofs.ContentLemmas.{shelf_of_board, shelf_of_request}
 use Rattle.rewrite_tool.specs.Named.{request_of}
 use Rattle.rewrite_tool.proofs.RequestLemmas.{request_of_file, board_failed, board_is_refused, no_board, no_board_memory}
 use Rattle.rewrite_tool.proofs.requests.answer_request.Goals as goal
@@ -10,15 +10,6 @@ pub returns-in-Ok-clause-says : goal.returns-in-Ok-clause-says
 returns-in-Ok-clause-says g c =
     request_of_file g.K.Sink _ _ (g.S.Shelf.told c.args.shelf.now) (request_of c.args.named) c.answer_file.result c.in-Ok.devices.items
     c.in-Ok.ensures.board (rw (c.deref.ensures.value, c.in-Ok.ensures.keeps) at c.answer_file.ensures.says)
-
-pub returns-in-Ok-clause-shelf : goal.returns-in-Ok-clause-shelf
-returns-in-Ok-clause-shelf g c = record {
-  keeps = search rules;
-  later = search rules;
-  read = λ e.
-      file_cause _ _ _ (request_of c.args.named).files c.in-Ok.devices.items (g.S.Shelf.told c.args.shelf.now)
-      c.in-Ok.ensures.board c.in-Ok.ensures.later (c.answer_file.ensures.shelf.read e);
-}
 
 pub returns-in_err-put_board_refusal-in-Err-At-clause-says : goal.returns-in_err-put_board_refusal-in-Err-At-clause-says
 returns-in_err-put_board_refusal-in-Err-At-clause-says g c =
@@ -42,3 +33,23 @@ returns-in-Err-Read-clause-says g c = no_board g.K.Sink c.args.lines.now (g.S.Sh
 
 pub returns-in-Err-Memory-clause-says : goal.returns-in-Err-Memory-clause-says
 returns-in-Err-Memory-clause-says g c = no_board_memory g.K.Sink c.args.lines.now (g.S.Shelf.told c.args.shelf.now) (request_of c.args.named) (Err Memory) refl
+
+pub returns-in-Ok-clause-shelf : goal.returns-in-Ok-clause-shelf
+returns-in-Ok-clause-shelf g c =
+    shelf_of_request (request_of c.args.named).files c.in-Ok.ensures.board c.in-Ok.ensures.once c.in-Ok.ensures.keeps c.in-Ok.ensures.later c.answer_file.ensures.shelf
+
+pub returns-in_err-put_board_refusal-in-Err-At-clause-shelf : goal.returns-in_err-put_board_refusal-in-Err-At-clause-shelf
+returns-in_err-put_board_refusal-in-Err-At-clause-shelf g c =
+    shelf_of_board c.board_named.result (request_of c.args.named).files c.board_named.ensures.once c.board_named.ensures.keeps c.board_named.ensures.later (search rules)
+
+pub returns-in_ok-put_board_refusal-in-Err-At-clause-shelf : goal.returns-in_ok-put_board_refusal-in-Err-At-clause-shelf
+returns-in_ok-put_board_refusal-in-Err-At-clause-shelf g c =
+    shelf_of_board c.board_named.result (request_of c.args.named).files c.board_named.ensures.once c.board_named.ensures.keeps c.board_named.ensures.later (search rules)
+
+pub returns-in-Err-Read-clause-shelf : goal.returns-in-Err-Read-clause-shelf
+returns-in-Err-Read-clause-shelf g c =
+    shelf_of_board c.board_named.result (request_of c.args.named).files c.board_named.ensures.once c.board_named.ensures.keeps c.board_named.ensures.later (search rules)
+
+pub returns-in-Err-Memory-clause-shelf : goal.returns-in-Err-Memory-clause-shelf
+returns-in-Err-Memory-clause-shelf g c =
+    shelf_of_board c.board_named.result (request_of c.args.named).files c.board_named.ensures.once c.board_named.ensures.keeps c.board_named.ensures.later (search rules)
