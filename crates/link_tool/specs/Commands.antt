@@ -8,8 +8,9 @@ use Rattle.tool_io.specs.declared.outside.Shelf.{Ghosts as ShelfOf}
 use Rattle.tool_io.specs.declared.outside.Sink.{Ghosts as SinkOf}
 use Rattle.tool_frame.specs.Answers.{WroteFront}
 use Rattle.tool_frame.specs.Commands.{text_asked}
-use Rattle.tool_frame.specs.Files.{HasReadCause}
-use Rattle.named_files.specs.Contents.{OfWords, IsReachedBy, PicksByWords}
+use Rattle.tool_frame.specs.Files.{PicksNamed, HasReadCause}
+use Rattle.named_files.specs.Words.{IsRequest}
+use Rattle.named_files.specs.Contents.{NamesBoth, OfWords, IsReachedBy}
 use Rattle.link_tool.specs.declared.status.LinkStatus.{LinkStatus}
 use Rattle.link_tool.specs.declared.status.LinkStatus.TheVariants.{Done, ReadFault, WriteFault, Memory}
 use Rattle.link_tool.specs.declared.help.TheConstants.{HELP, VERSION}
@@ -48,7 +49,7 @@ pub record Serves {S K D Kind : Type 0} (shelf : ShelfOf S) (sink : SinkOf K) (k
   pub front : status ≡ WriteFault → OfWords link_key (shelf.told files) words (λ contents.
       WroteFront (WordsAnswer words (λ named. contents)) (sink.written out) (sink.written new_out))
   pub memory : status ≡ Memory → sink.written new_out ≡ sink.written out
-  pub once : PicksByWords link_key words (shelf.picks files) (shelf.picks new_files)
+  pub once : PicksNamed (NamesBoth (IsRequest link_key words)) (shelf.picks files) (shelf.picks new_files)
   pub keeps : shelf.told new_files ≡ shelf.told files
   pub later : NoneFalls shelf.faults shelf.is_last files new_files
   pub out_later : NeverFalls sink.faults sink.is_last out new_out

@@ -1,15 +1,14 @@
 //! The top call.
-ghost use Rattle.std.specs.Prelude.{◌≡◌, [], ◌∷◌, Some, map, string_bytes};
+ghost use Rattle.std.specs.Prelude.{◌≡◌, Some, map, string_bytes};
 ghost use Rattle.tool_io.specs.Causes.{HasRisen, NeverFalls, NoneFalls};
-ghost use Rattle.tool_io.specs.Files.{PicksFront};
 ghost use Rattle.tool_frame.specs.Answers.{WroteFront};
 ghost use Rattle.tool_frame.specs.Frame.{KeepsCount};
 ghost use Rattle.board_text.specs.Boards.{CanBeFitted};
 ghost use Rattle.chain_sim.specs.Rack.{IsRack};
-ghost use Rattle.tool_frame.specs.Files.{OfFile, HasReadCause, KeepsShelf};
+ghost use Rattle.tool_frame.specs.Files.{OfFile, NamesThis, PicksNamed, HasReadCause, KeepsShelf};
+ghost use Rattle.named_files.specs.Words.{IsRequest};
 ghost use Rattle.named_files.specs.Named.{files_named};
-ghost use Rattle.named_files.specs.Contents.{OfContents, OfWords, IsReached, IsReachedBy};
-ghost use Rattle.named_files.specs.Contents.{both_names, PicksByWords};
+ghost use Rattle.named_files.specs.Contents.{OfContents, AreFilesOf, NamesBoth, OfWords, IsReached, IsReachedBy};
 ghost use Rattle.link_tool.specs.Statuses.{IsFault, ComesBeforeFitting};
 ghost use Rattle.link_tool.specs.Answers.{link_key, FileAnswer, RequestAnswer, WordsAnswer};
 ghost use Rattle.link_tool.specs.Answers.{FileDue, RequestDue, WordsDue};
@@ -40,8 +39,7 @@ fn answer_file<S: Shelf, K: Sink>(
     ensures answers { OfFile (S.told shelf.old) (Some path.now) (λ held. Answers kind_of fitted
         (FileAnswer devices.now held) (FileDue S.Shelf shelf.new devices.now held) (HeldLeft devices.now held)
         (K.written out.old) (K.written out.new) rack.old.items rack.new.items result) }
-    ensures once { PicksFront (S.picks shelf.old) (path.now ∷ []) (S.picks shelf.new) }
-    ensures shelf { KeepsShelf S.Shelf (λ read. read ≡ path.now) shelf.old shelf.new result }
+    ensures shelf { KeepsShelf S.Shelf (NamesThis path.now) (λ read. read ≡ path.now) shelf.old shelf.new result }
     ensures output { KeepsCount K.Sink out.old out.new result }
 {
     let places = fit_board(alloc, rack, devices)?;
@@ -64,9 +62,8 @@ fn answer_request<S: Shelf, K: Sink>(
         (RequestAnswer contents) (RequestDue S.Shelf shelf.old shelf.new (files_named named.entry) contents)
         (RequestHoldsLeft contents)
         (K.written out.old) (K.written out.new) rack.old.items rack.new.items result) }
-    ensures once { PicksFront (S.picks shelf.old) (both_names (files_named named.entry)) (S.picks shelf.new) }
-    ensures shelf { KeepsShelf S.Shelf (IsReached (S.told shelf.old) (files_named named.entry))
-        shelf.old shelf.new result }
+    ensures shelf { KeepsShelf S.Shelf (AreFilesOf (files_named named.entry))
+        (IsReached (S.told shelf.old) (files_named named.entry)) shelf.old shelf.new result }
     ensures output { KeepsCount K.Sink out.old out.new result }
 {
     match board_named(alloc, shelf, named.board) {
@@ -91,8 +88,7 @@ fn run<S: Shelf, K: Sink>(
         (WordsDue S.Shelf shelf.old shelf.new (map string_bytes words.now) contents)
         (WordsHoldLeft (map string_bytes words.now) contents)
         (K.written out.old) (K.written out.new) rack.old.items rack.new.items result) }
-    ensures once { PicksByWords link_key (map string_bytes words.now) (S.picks shelf.old) (S.picks shelf.new) }
-    ensures shelf { KeepsShelf S.Shelf
+    ensures shelf { KeepsShelf S.Shelf (NamesBoth (IsRequest link_key (map string_bytes words.now)))
         (IsReachedBy link_key (S.told shelf.old) (map string_bytes words.now)) shelf.old shelf.new result }
     ensures output { KeepsCount K.Sink out.old out.new result }
 {
@@ -149,7 +145,8 @@ pub fn run_link<S: Shelf, K: Sink>(
 
     // Whatever is answered, only files that the words name are opened, each at most once, and the board first. The
     // files stay, and no count falls.
-    ensures once { PicksByWords link_key (map string_bytes words.now) (S.picks shelf.old) (S.picks shelf.new) }
+    ensures once { PicksNamed (NamesBoth (IsRequest link_key (map string_bytes words.now)))
+        (S.picks shelf.old) (S.picks shelf.new) }
     ensures keeps { S.told shelf.new ≡ S.told shelf.old }
     ensures later { NoneFalls S.faults S.is_last shelf.old shelf.new }
     ensures out_later { NeverFalls K.faults K.is_last out.old out.new }

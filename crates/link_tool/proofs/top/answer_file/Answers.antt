@@ -1,7 +1,8 @@
-use Rattle.std.proofs.Common.{◌∙◌}
-use Rattle.tool_io.proofs.PickLemmas.{picks_none, picks_first, picks_at_most}
+use Rattle.std.proofs.Common.{◌∙◌, rules}
+use Rattle.tool_io.proofs.PickLemmas.{picks_as}
 use Rattle.link_tool.specs.Answers.{new_board}
 use Rattle.link_tool.proofs.FileLemmas.{no_room, not_picked, of_session}
+use Rattle.tool_frame.proofs.FileLemmas.{shelf_of_read}
 use Rattle.link_tool.proofs.top.answer_file.Goals as goal
 
 pub returns-in_err-places-clause-answers : goal.returns-in_err-places-clause-answers
@@ -21,11 +22,9 @@ returns-clause-answers g c =
     not_picked _ _ c.args.devices.now g.S.Shelf c.pick.new.self c.in-Err.ensures.none (g.S.Shelf.told c.args.shelf.now) c.args.path.now (g.K.Sink.written c.args.out.now) c.args.rack.now.items c.fit_board.new.rack.items
     c.fit_board.ensures.kinds
 
-pub returns-in_err-places-clause-once : goal.returns-in_err-places-clause-once
-returns-in_err-places-clause-once g c = picks_none _ _
+pub returns-in-Ok-clause-shelf : goal.returns-in-Ok-clause-shelf
+returns-in-Ok-clause-shelf g c =
+    shelf_of_read c.pick.result (picks_as _ _ c.pick.result (c.serve_to.ensures.unpicked ∙ c.in-Ok.ensures.once)) (search rules) (search rules) (search rules)
 
-pub returns-in-Ok-clause-once : goal.returns-in-Ok-clause-once
-returns-in-Ok-clause-once g c = picks_first _ (c.serve_to.ensures.unpicked ∙ c.in-Ok.ensures.once)
-
-pub returns-clause-once : goal.returns-clause-once
-returns-clause-once g c = picks_at_most _ c.pick.result c.pick.ensures.once
+pub returns-clause-shelf : goal.returns-clause-shelf
+returns-clause-shelf g c = shelf_of_read c.pick.result c.pick.ensures.once (search rules) (search rules) (search rules)
