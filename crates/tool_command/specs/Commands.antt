@@ -9,7 +9,7 @@ use Rattle.play_words.specs.declared.status.Status.TheVariants.{Done, ReadFault,
 use Rattle.tool_frame.specs.declared.no_answer.NoAnswer.{NoAnswer}
 use Rattle.tool_frame.specs.declared.no_answer.NoAnswer.TheVariants as causes
 use Rattle.play_tool.specs.Answers.{WordsAnswer}
-use Rattle.play_tool.specs.ReadContents.{OfWords, IsReachedBy}
+use Rattle.play_tool.specs.ReadContents.{NamesFiles, OfWords, IsReachedBy}
 use Rattle.tool_questions.specs.Questions.{ask_question, QuestionAnswer, IsAskedOf}
 use Rattle.play_words.specs.declared.help.TheConstants.{HELP, VERSION}
 
@@ -21,6 +21,11 @@ CommandAnswer ToolAnswer words = commands.CommandAnswer HELP.now VERSION.now (Do
 pub data IsReachedByCommand (told : Option (List (List ℕ × List ℕ))) (words : List (List ℕ)) (path : List ℕ) : Type 0 where
   by_tool : IsReachedBy told words path → IsReachedByCommand told words path
   by_question : IsAskedOf words path → IsReachedByCommand told words path
+
+-- the files that the words name: those of their request, or, if they are a question, its file
+pub data NamesByCommand (words : List (List ℕ)) (named : List (Option (List ℕ))) : Type 0 where
+  files_of_request : ask_question words ≡ false → NamesFiles words named → NamesByCommand words named
+  file_of_question : ask_question words ≡ true → NamesOne (IsAskedOf words) named → NamesByCommand words named
 
 -- A prefix of the answer to the words is written, with the contents of their files as they were read; or, if they are a
 -- question, of the answer to that.

@@ -9,7 +9,8 @@ ghost use Rattle.play_tool.specs.FinalRacks.{AskForPlay};
 ghost use Rattle.play_tool.specs.ReadContents.{OfWords, Answered};
 ghost use Rattle.play_tool.specs.TopCalls.{HasFailedRead, HasFailedWrite, KeepsOutside, KeepsDevices};
 ghost use Rattle.tool_questions.specs.Questions.{ask_question, QuestionAnswer, IsAskedOf};
-ghost use Rattle.tool_command.specs.Commands.{CommandAnswer, IsReachedByCommand, HasCommandFront, status_of};
+ghost use Rattle.tool_command.specs.Commands.{CommandAnswer, IsReachedByCommand, NamesByCommand};
+ghost use Rattle.tool_command.specs.Commands.{HasCommandFront, status_of};
 
 use dev_card::Device;
 use play_tool::run_tool;
@@ -69,8 +70,10 @@ pub fn run_command<S: Shelf, K: Sink>(
     // After want of memory nothing is written.
     ensures memory { result ≡ Status.Memory → K.written out.new ≡ K.written out.old }
 
-    // Whatever is answered, the files stay, and no count falls.
-    ensures kept { KeepsOutside S.Shelf K.Sink shelf.old shelf.new out.old out.new }
+    // Whatever is answered, only files that the words name are opened, each at most once, and the board of a play
+    // first. The files stay, and no count falls.
+    ensures kept { KeepsOutside S.Shelf K.Sink (NamesByCommand (map string_bytes words.now))
+        shelf.old shelf.new out.old out.new }
 
     // The rack stays as it was, if the cause of the status comes before the board is fitted, and if no play is asked
     // for. In any case each of its devices keeps its kind.

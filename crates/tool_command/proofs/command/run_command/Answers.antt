@@ -2,7 +2,7 @@ use Rattle.std.proofs.Common.{◌≡◌, ◌∙◌, sym, ap, map, string_bytes, 
 use Rattle.std.proofs.lemmas.Bool.{false≢true}
 use Rattle.std.specs.Option.{option_map}
 use Rattle.tool_frame.proofs.AnswerLemmas.{wrote_within, front_within_written}
-use Rattle.tool_frame.proofs.FileLemmas.{of_files_as}
+use Rattle.tool_frame.proofs.FileLemmas.{of_files_as, picks_within}
 use Rattle.tool_frame.specs.Files.{first_of}
 use Rattle.tool_frame.specs.declared.no_answer.NoAnswer.TheVariants.{Read, Write, Memory}
 use Rattle.play_words.specs.declared.mode.Mode.TheVariants as modes
@@ -14,7 +14,7 @@ use Rattle.tool_questions.specs.Statuses.{question_status}
 use Rattle.tool_frame.specs.Commands.{text_asked, shown}
 use Rattle.tool_frame.proofs.ShownLemmas.{tool_answers}
 use Rattle.play_words.specs.declared.help.TheConstants.{HELP, VERSION}
-use Rattle.tool_command.specs.Commands.{by_tool, by_question}
+use Rattle.tool_command.specs.Commands.{by_tool, by_question, files_of_request, file_of_question}
 use Rattle.tool_command.proofs.CommandLemmas.{has_no_mode}
 use Rattle.tool_command.proofs.QuestionLemmas.{run_wrote, run_failed, failed_wrote}
 use Rattle.tool_command.proofs.command.run_command.Goals as goal
@@ -78,7 +78,27 @@ returns-in-None-clause-read g c = λ fault.
       nothing = failed.nothing;
     }
 
+pub returns-in-None-clause-kept : goal.returns-in-None-clause-kept
+returns-in-None-clause-kept g c =
+    let kept = c.run_tool.ensures.kept in
+    record {
+      once = picks_within (λ named names. files_of_request (sym c.ask_question.ensures ∙ c.if-ask_question.false) names) kept.once;
+      files = kept.files;
+      of_files = kept.of_files;
+      of_sink = kept.of_sink;
+    }
+
 -- A question.
+
+pub returns-then-ask_question-clause-kept : goal.returns-then-ask_question-clause-kept
+returns-then-ask_question-clause-kept g c =
+    let kept = c.run.ensures.shelf in
+    record {
+      once = picks_within (λ named names. file_of_question (sym c.ask_question.ensures ∙ c.if-ask_question.true) names) kept.once;
+      files = kept.keeps;
+      of_files = kept.later;
+      of_sink = c.run.ensures.sink.later;
+    }
 
 pub returns-then-ask_question-clause-answer : goal.returns-then-ask_question-clause-answer
 returns-then-ask_question-clause-answer g c = λ works none. absurd (false≢true (sym none ∙ sym c.ask_question.ensures ∙ c.if-ask_question.true))
