@@ -6,7 +6,7 @@ ghost use Rattle.stapl_syntax.specs.Programs.{IsProgram};
 ghost use Rattle.stapl_syntax.specs.ProgramValues.{trees_of};
 ghost use Rattle.board_text.specs.Boards.{CanBeFitted};
 ghost use Rattle.chain_sim.specs.Rack.{IsRack};
-ghost use Rattle.tool_frame.specs.Files.{OfFile, OfFiles, KeepsShelf};
+ghost use Rattle.tool_frame.specs.Files.{OfFile, OfFiles, NamesThis, KeepsShelf};
 ghost use Rattle.play_tool.specs.ReadContents.{ArePlayFiles, IsPlayFile};
 ghost use Rattle.quiet_tool.specs.Answers.{ActionAnswer, HeldAnswer, RequestAnswer};
 
@@ -58,7 +58,7 @@ fn answer_file<S: Shelf, K: Sink>(
     ensures says { OfFile (S.told shelf.old) (Some path.now) (λ held. Says K.Sink
         (HeldAnswer task.now.request.now task.now.devices.now held) (IsSilent lines.old lines.new)
         lines.old lines.new result) }
-    ensures shelf { KeepsShelf S.Shelf (λ read. read ≡ path.now) shelf.old shelf.new result }
+    ensures shelf { KeepsShelf S.Shelf (NamesThis path.now) (λ read. read ≡ path.now) shelf.old shelf.new result }
     ensures kinds { map kind_of rack.new.items ≡ map kind_of rack.old.items }
 {
     match program_named(alloc, shelf, path) {
@@ -93,7 +93,7 @@ pub(crate) fn answer_play<S: Shelf, K: Sink>(
     requires whole { IsWhole lines.old }
     ensures says { OfFiles (ArePlayFiles play.now) (S.told shelf.old) (λ contents. Says K.Sink
         (RequestAnswer play.now.request contents) (IsSilent lines.old lines.new) lines.old lines.new result) }
-    ensures shelf { KeepsShelf S.Shelf (IsPlayFile (S.told shelf.old) play.now)
+    ensures shelf { KeepsShelf S.Shelf (ArePlayFiles play.now) (IsPlayFile (S.told shelf.old) play.now)
         shelf.old shelf.new result }
     ensures kinds { map kind_of rack.new.items ≡ map kind_of rack.old.items }
 {

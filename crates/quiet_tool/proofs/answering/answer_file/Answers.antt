@@ -1,9 +1,10 @@
-use Rattle.std.proofs.Common.{sym, ap, Err, Some, refl}
+use Rattle.std.proofs.Common.{sym, ap, Err, Some, refl, rules}
 use Rattle.tool_frame.proofs.AnswerLemmas.{says_within}
 use Rattle.named_files.proofs.BoardLemmas.{of_any_file}
 use Rattle.program_files.proofs.ProgramLemmas.{of_text, fault_is, refusal_failed, refusal_put}
 use Rattle.quiet_tool.specs.Answers.{TextAnswer, refused}
 use Rattle.quiet_tool.proofs.AnswerLemmas.{program_in_text}
+use Rattle.tool_frame.proofs.FileLemmas.{shelf_of_read}
 use Rattle.quiet_tool.proofs.answering.answer_file.Goals as goal
 
 pub returns-in-Ok-clause-says : goal.returns-in-Ok-clause-says
@@ -30,3 +31,23 @@ returns-in-Err-Read-clause-says g c = of_any_file (g.S.Shelf.told c.args.shelf.n
 
 pub returns-in-Err-Memory-clause-says : goal.returns-in-Err-Memory-clause-says
 returns-in-Err-Memory-clause-says g c = of_any_file (g.S.Shelf.told c.args.shelf.now) (Some c.args.path.now) (λ held. (refl, refl))
+
+pub returns-in-Ok-clause-shelf : goal.returns-in-Ok-clause-shelf
+returns-in-Ok-clause-shelf g c =
+    shelf_of_read c.program_named.result c.program_named.ensures.once c.program_named.ensures.keeps c.program_named.ensures.later (search rules)
+
+pub returns-in_err-put_refusal-in-Err-Refused-clause-shelf : goal.returns-in_err-put_refusal-in-Err-Refused-clause-shelf
+returns-in_err-put_refusal-in-Err-Refused-clause-shelf g c =
+    shelf_of_read c.program_named.result c.program_named.ensures.once c.program_named.ensures.keeps c.program_named.ensures.later (search rules)
+
+pub returns-in_ok-put_refusal-in-Err-Refused-clause-shelf : goal.returns-in_ok-put_refusal-in-Err-Refused-clause-shelf
+returns-in_ok-put_refusal-in-Err-Refused-clause-shelf g c =
+    shelf_of_read c.program_named.result c.program_named.ensures.once c.program_named.ensures.keeps c.program_named.ensures.later (search rules)
+
+pub returns-in-Err-Read-clause-shelf : goal.returns-in-Err-Read-clause-shelf
+returns-in-Err-Read-clause-shelf g c =
+    shelf_of_read c.program_named.result c.program_named.ensures.once c.program_named.ensures.keeps c.program_named.ensures.later (search rules)
+
+pub returns-in-Err-Memory-clause-shelf : goal.returns-in-Err-Memory-clause-shelf
+returns-in-Err-Memory-clause-shelf g c =
+    shelf_of_read c.program_named.result c.program_named.ensures.once c.program_named.ensures.keeps c.program_named.ensures.later (search rules)

@@ -2,8 +2,7 @@ use Rattle.std.proofs.Common.{sym, ap, Err, rules, refl}
 use Rattle.tool_frame.proofs.AnswerLemmas.{says_within, says_failed, said_text, said_front}
 use Rattle.named_files.proofs.BoardLemmas.{fault_is}
 use Rattle.play_words.specs.Words.{play_files}
-use Rattle.play_tool.specs.ReadContents.{board_reached}
-use Rattle.play_tool.proofs.RequestLemmas.{of_any_files, of_board, of_both, source_cause}
+use Rattle.play_tool.proofs.RequestLemmas.{of_any_files, of_board, of_both, shelf_of_board, shelf_of_play}
 use Rattle.quiet_tool.specs.declared.status.QuietStatus.TheVariants.{BoardRefused}
 use Rattle.quiet_tool.specs.Answers.{board_refused}
 use Rattle.quiet_tool.proofs.AnswerLemmas.{held_in_request}
@@ -15,15 +14,6 @@ returns-in-Ok-clause-says g c =
     of_both (g.S.Shelf.told c.args.shelf.now) c.args.play.now board.held board.read
     (rw (c.as_str-in-Ok.ensures, c.deref.ensures.value, c.in-Ok.ensures.keeps) at c.answer_file.ensures.says)
     (λ source says. says_within _ _ _ _ _ c.answer_file.result (held_in_request c.args.play.now.request c.in-Ok.devices.items _ board.holds) (λ same. same) says)
-
-pub returns-in-Ok-clause-shelf : goal.returns-in-Ok-clause-shelf
-returns-in-Ok-clause-shelf g c = record {
-  keeps = search rules;
-  later = search rules;
-  read = λ e.
-      source_cause _ _ _ c.args.play.now c.in-Ok.devices.items (g.S.Shelf.told c.args.shelf.now) _ _ c.as_str.ensures c.as_str-in-Ok.ensures
-      c.in-Ok.ensures.board c.in-Ok.ensures.later (c.answer_file.ensures.shelf.read e);
-}
 
 pub returns-in_err-put_board_refusal-in-Err-At-clause-says : goal.returns-in_err-put_board_refusal-in-Err-At-clause-says
 returns-in_err-put_board_refusal-in-Err-At-clause-says g c =
@@ -43,12 +33,25 @@ returns-in_ok-put_board_refusal-in-Err-At-clause-says g c =
 pub returns-in-Err-Read-clause-says : goal.returns-in-Err-Read-clause-says
 returns-in-Err-Read-clause-says g c = of_any_files (g.S.Shelf.told c.args.shelf.now) (play_files c.args.play.now) (λ contents. (refl, refl))
 
-pub returns-in-Err-Read-clause-shelf : goal.returns-in-Err-Read-clause-shelf
-returns-in-Err-Read-clause-shelf g c = record {
-  keeps = search rules;
-  later = search rules;
-  read = λ _. record { path = c.as_str.result.now; is_reached = board_reached c.as_str.ensures; rose = c.in-Err-Read.ensures.read (ap Err c.in-Err-Read.field-0-is) };
-}
-
 pub returns-in-Err-Memory-clause-says : goal.returns-in-Err-Memory-clause-says
 returns-in-Err-Memory-clause-says g c = of_any_files (g.S.Shelf.told c.args.shelf.now) (play_files c.args.play.now) (λ contents. (refl, refl))
+
+pub returns-in-Ok-clause-shelf : goal.returns-in-Ok-clause-shelf
+returns-in-Ok-clause-shelf g c =
+    shelf_of_play c.args.play.now c.as_str.ensures c.as_str-in-Ok.ensures c.in-Ok.ensures.board c.in-Ok.ensures.once c.in-Ok.ensures.keeps c.in-Ok.ensures.later c.answer_file.ensures.shelf
+
+pub returns-in_err-put_board_refusal-in-Err-At-clause-shelf : goal.returns-in_err-put_board_refusal-in-Err-At-clause-shelf
+returns-in_err-put_board_refusal-in-Err-At-clause-shelf g c =
+    shelf_of_board c.board_named.result c.args.play.now c.as_str.ensures c.board_named.ensures.once c.board_named.ensures.keeps c.board_named.ensures.later (search rules)
+
+pub returns-in_ok-put_board_refusal-in-Err-At-clause-shelf : goal.returns-in_ok-put_board_refusal-in-Err-At-clause-shelf
+returns-in_ok-put_board_refusal-in-Err-At-clause-shelf g c =
+    shelf_of_board c.board_named.result c.args.play.now c.as_str.ensures c.board_named.ensures.once c.board_named.ensures.keeps c.board_named.ensures.later (search rules)
+
+pub returns-in-Err-Read-clause-shelf : goal.returns-in-Err-Read-clause-shelf
+returns-in-Err-Read-clause-shelf g c =
+    shelf_of_board c.board_named.result c.args.play.now c.as_str.ensures c.board_named.ensures.once c.board_named.ensures.keeps c.board_named.ensures.later (search rules)
+
+pub returns-in-Err-Memory-clause-shelf : goal.returns-in-Err-Memory-clause-shelf
+returns-in-Err-Memory-clause-shelf g c =
+    shelf_of_board c.board_named.result c.args.play.now c.as_str.ensures c.board_named.ensures.once c.board_named.ensures.keeps c.board_named.ensures.later (search rules)

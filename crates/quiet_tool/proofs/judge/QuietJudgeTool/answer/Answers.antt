@@ -1,6 +1,6 @@
 use Rattle.std.proofs.Common.{ℕ, List, map, string_bytes, Global, refl, sym, subst}
 use Rattle.tool_frame.proofs.AnswerLemmas.{says_within, says_failed, said_text, said_front}
-use Rattle.play_tool.proofs.RequestLemmas.{of_request, of_no_request, of_any_words, reached_by}
+use Rattle.play_tool.proofs.RequestLemmas.{of_request, of_no_request, of_any_words, shelf_of_words}
 use Rattle.quiet_tool.specs.declared.status.QuietStatus.TheVariants.{Usage}
 use Rattle.quiet_tool.specs.Words.{play_words, HasUsage, AreRefused}
 use Rattle.quiet_tool.specs.Answers.{usage}
@@ -17,13 +17,6 @@ returns-in-Ok-clause-answers g c =
           (record { to = λ text status a. (promised _ contents).to text status ((request_in_words c.in-Ok.play contents asks).to text status a) }) (λ same. same) says;
       left = c.answer_play.ensures.kinds;
     })
-
-pub returns-in-Ok-clause-shelf : goal.returns-in-Ok-clause-shelf
-returns-in-Ok-clause-shelf g c = record {
-  keeps = c.answer_play.ensures.shelf.keeps;
-  later = c.answer_play.ensures.shelf.later;
-  read = λ e. reached_by c.in-Ok.ensures.play (c.answer_play.ensures.shelf.read e);
-}
 
 pub returns-in_err-put_usage-in-Err-Usage-clause-answers : goal.returns-in_err-put_usage-in-Err-Usage-clause-answers
 returns-in_err-put_usage-in-Err-Usage-clause-answers g c =
@@ -47,3 +40,7 @@ returns-in_ok-put_usage-in-Err-Usage-clause-answers g c =
 pub returns-in-Err-Memory-clause-answers : goal.returns-in-Err-Memory-clause-answers
 returns-in-Err-Memory-clause-answers g c =
     of_any_words (g.S.Shelf.told c.args.shelf.now) (play_words (map (string_bytes {Z = Global}) c.args.words.now)) (λ contents. record { says = (refl, refl); left = refl })
+
+pub returns-in-Ok-clause-shelf : goal.returns-in-Ok-clause-shelf
+returns-in-Ok-clause-shelf g c =
+    shelf_of_words c.in-Ok.ensures.play c.answer_play.ensures.shelf
