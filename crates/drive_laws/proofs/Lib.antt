@@ -1,0 +1,3 @@
+pub mod AlikePlays
+pub mod LinkLemmas
+pub mod LinkedPlays
