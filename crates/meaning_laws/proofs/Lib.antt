@@ -21,4 +21,5 @@ pub mod NumberLemmas
 pub mod OneQuotient
 pub mod OrderLemmas
 pub mod SideLemmas
+pub mod OperandLemmas
 pub mod Plays

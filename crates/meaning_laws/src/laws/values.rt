@@ -1,6 +1,6 @@
 //! Laws of values: what operators give, in the words of arithmetic and of bits.
 ghost use Rattle.std.specs.Prelude.{◌≡◌, ◌≢◌, ◌<◌, ◌≤◌, ◌⊎◌, ◌^◌, ℕ, suc, ℤ, pos, negsuc, ◌+ℤ◌, ◌-ℤ◌, ◌*ℤ◌, ◌<ℤ◌, Bool};
-ghost use Rattle.std.specs.Prelude.{true, false, List, [], ◌∷◌, length, Some, slice_get};
+ghost use Rattle.std.specs.Prelude.{true, false, List, [], ◌∷◌, ◌++◌, length, Some, slice_get};
 ghost use Rattle.stapl_lexer.specs.declared.terminal.BinOp.{BinOp};
 ghost use Rattle.stapl_lexer.specs.declared.terminal.BinOp.TheVariants.{Add, Subtract, Multiply, Divide, Remainder};
 ghost use Rattle.stapl_lexer.specs.declared.terminal.BinOp.TheVariants.{ShiftLeft, ShiftRight, BitAnd, BitOr, BitXor};
@@ -8,12 +8,14 @@ ghost use Rattle.stapl_lexer.specs.declared.terminal.BinOp.TheVariants.{Less, At
 ghost use Rattle.stapl_lexer.specs.declared.terminal.BinOp.TheVariants.{NotEqual, And, Or};
 ghost use Rattle.stapl_syntax.specs.declared.signs.UnOp.{UnOp};
 ghost use Rattle.stapl_syntax.specs.declared.signs.UnOp.TheVariants.{Negate, Complement, Not};
-ghost use Rattle.stapl_syntax.specs.Trees.{ExprTree, unary, binary, abs, int, PartTree, character};
+ghost use Rattle.stapl_syntax.specs.Trees.{ExprTree, number, scalar, element, unary, binary, abs, int};
+ghost use Rattle.stapl_syntax.specs.Trees.{PartTree, character};
 ghost use Rattle.stapl_syntax.specs.Trees.{literal, whole, range, of_int};
 ghost use Rattle.stapl_meaning.specs.declared.events.RunFault.TheVariants.{ShiftCount, BadChar};
 ghost use Rattle.stapl_meaning.specs.declared.profiles.Profile.TheVariants.{Two};
 ghost use Rattle.stapl_meaning.specs.declared.values.Held.{Held};
 ghost use Rattle.stapl_meaning.specs.declared.values.Held.TheVariants.{Bits};
+ghost use Rattle.stapl_meaning.specs.declared.values.Held.TheVariants as held;
 ghost use Rattle.stapl_meaning.specs.declared.values.Value.{Value};
 ghost use Rattle.stapl_meaning.specs.declared.values.Value.TheVariants.{Int, Bit};
 ghost use Rattle.stapl_meaning.specs.declared.values.ValueKind.{ValueKind};
@@ -147,4 +149,30 @@ pub fn an_expression_has_the_value_of_its_operator()
         value_of look variables kind (unary op a) ≡ signed op x }
     ensures of_absolute { (look : Lookup) (variables : List Held) (kind : ValueKind) (a : ExprTree) (x : Value) →
         value_of look variables kinds.Int a ≡ Known x → value_of look variables kind (abs a) ≡ absolute x }
+{}
+
+/// A number is itself, and where a bit is wanted, 0 and 1 are the bits. A variable has the value that it holds, and an
+/// element of an array the value that has as many before it as the index says.
+pub fn operands_have_the_values_that_they_hold()
+    ensures number { (look : Lookup) (variables : List Held) (z : ℤ) →
+        value_of look variables kinds.Int (number z) ≡ Known (Int z) }
+    ensures bits { (look : Lookup) (variables : List Held) →
+        (value_of look variables kinds.Bit (number (pos 0)) ≡ Known (Bit false)) ×
+        (value_of look variables kinds.Bit (number (pos 1)) ≡ Known (Bit true)) }
+    ensures integer { (look : Lookup) (variables : List Held) (kind : ValueKind) (name : List ℕ) (z : ℤ) →
+        slice_get variables (look.variable name) ≡ Some (held.Int z) →
+        value_of look variables kind (scalar name) ≡ Known (Int z) }
+    ensures boolean { (look : Lookup) (variables : List Held) (kind : ValueKind) (name : List ℕ) (bit : Bool) →
+        slice_get variables (look.variable name) ≡ Some (held.Bit bit) →
+        value_of look variables kind (scalar name) ≡ Known (Bit bit) }
+    ensures of_integers { (look : Lookup) (variables : List Held) (kind : ValueKind) (name : List ℕ) (e : ExprTree)
+        (before after : List ℤ) (z : ℤ) →
+        slice_get variables (look.variable name) ≡ Some (held.Ints (before ++ z ∷ after)) →
+        value_of look variables kinds.Int e ≡ Known (Int (pos (length before))) →
+        value_of look variables kind (element name e) ≡ Known (Int z) }
+    ensures of_bits { (look : Lookup) (variables : List Held) (kind : ValueKind) (name : List ℕ) (e : ExprTree)
+        (before after : List Bool) (bit : Bool) →
+        slice_get variables (look.variable name) ≡ Some (Bits (before ++ bit ∷ after)) →
+        value_of look variables kinds.Int e ≡ Known (Int (pos (length before))) →
+        value_of look variables kind (element name e) ≡ Known (Bit bit) }
 {}
