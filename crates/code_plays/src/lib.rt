@@ -5,4 +5,6 @@ mod endings;
 mod over_cable;
 mod playing;
 
+pub use endings::put_ending;
+pub use over_cable::base_of;
 pub use playing::{Task, choose_asked, has_place, play_code};

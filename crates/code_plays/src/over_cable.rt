@@ -32,8 +32,8 @@ fn failed(trouble: Trouble) -> Failed
     }
 }
 
-// The base padding that a task asks for: around its run of devices, if it names one.
-fn base_of(task: &Task) -> BasePads
+/// The base padding that a task asks for: around its run of devices, if it names one.
+pub fn base_of(task: &Task) -> BasePads
     requires placed { has_place task.now.request.now.place task.now.devices.now ≡ true }
     requires devices { CanBeFitted task.now.devices.now }
     ensures { lengths_of result ≡ task_base task.now }

@@ -1,5 +1,5 @@
 -- The words of a command: the mode, and after it keys with their values, in any order. The rules are this tool's own.
-use Rattle.std.specs.Prelude.{◌≡◌, ◌≢◌, ℕ, ◌+◌, ◌<◌, List, [], ◌∷◌, Bool, true, false, length, codes, suc, zero, slice_index_or, Option, None, Some}
+use Rattle.std.specs.Prelude.{◌≡◌, ◌≢◌, ℕ, ◌+◌, ◌<◌, ◌≤◌, List, [], ◌∷◌, Bool, true, false, length, codes, suc, zero, slice_index_or, Option, None, Some}
 use Rattle.std.specs.List.{list_any}
 use Rattle.std.specs.Option.{option_map}
 use Rattle.command_words.specs.declared.place_run.PlaceRun.{PlaceRun}
@@ -270,3 +270,8 @@ pub data IsUsage (words : List (List ℕ)) : ℕ → Type 0 where
 abbrev pub IsWordsRefused : List (List ℕ) → WordsRefused → Type 0
 IsWordsRefused words (refusals.Usage n) = IsUsage words n
 IsWordsRefused words refusals.Memory = Unit {0}
+
+-- the word that is refused is among the first thirteen, if one is
+abbrev pub IsAmongFirst : WordsRefused → Type 0
+IsAmongFirst (refusals.Usage n) = n ≤ 13
+IsAmongFirst refusals.Memory = Unit {0}

@@ -1,7 +1,7 @@
 //! The words of a command.
 ghost use Rattle.std.specs.Prelude.{◌≡◌, ◌≢◌, ◌≤◌, ◌<◌, ◌+◌, ℕ, Bool, List, length, map, codes, string_bytes, is_some, None, IfSome, IfNone, IfOk, IfErr, OnOk};
 ghost use Rattle.std.specs.Option.{option_map};
-ghost use Rattle.play_words.specs.Words.{mode_word, key_of, GivesPart, HasMode, IsRequest, IsFirstUnread, IsWordsRefused};
+ghost use Rattle.play_words.specs.Words.{mode_word, key_of, GivesPart, HasMode, IsRequest, IsFirstUnread, IsWordsRefused, IsAmongFirst};
 ghost use Rattle.play_words.specs.ReadParts.{values_of, given_of, with_part, part_of, GivesNoPart, AddsPart, Refuses, AddsWord, AddsNothing, AreReadUpTo, LacksKey, HasPlayValues, HasFileValues, LacksPlay, HasValues};
 ghost use Rattle.play_words.specs.declared.mode.Mode.{Mode};
 
@@ -387,6 +387,10 @@ fn read_parts(mode: Mode, words: &[String]) -> Result<Given<'_>, usize>
 pub fn read_words(alloc: Global, words: &[String]) -> Result<Request, WordsRefused>
     ensures request { IfOk result (IsRequest (map string_bytes words.now)) }
     ensures refused { IfErr result (IsWordsRefused (map string_bytes words.now)) }
+
+    // A word more than the mode and each key once is refused.
+    ensures few { IfErr result IsAmongFirst }
+    ensures few_words { OnOk result (length words.now ≤ 12) }
 {
     let Some(mode) = mode_of(words) else {
         return Err(WordsRefused::Usage(1));
