@@ -23,8 +23,8 @@ use std::alloc::Global;
 use tool_frame::NoAnswer;
 use tool_io::{Lines, Sink};
 
-// The play of action A that a soak asks for, for the device at a place.
-fn request_at(alloc: Global, place: u32) -> PlayRequest
+/// The play of action A that a soak asks for, for the device at a place, counted from 1.
+pub fn request_at(alloc: Global, place: u32) -> PlayRequest
     ensures { result ≡ request_at place }
 {
     let Some(action) = Name::read_free(b"A") else {

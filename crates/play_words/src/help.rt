@@ -42,6 +42,10 @@ pub const HELP: &[u8] = b"zanutero: checks, lists, compiles and plays STAPL prog
   zanutero --board board=PATH
       checks the board: counts its devices, or shows its first faulty line as
       --line does
+  zanutero --why WORD..
+      says why the command of these words does not do what was asked, and what
+      to do, or that it does it; a play is played for that, and its lines are
+      not written. As in: zanutero --why check program=PATH
   zanutero --help
   zanutero --version
 

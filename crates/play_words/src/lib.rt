@@ -13,4 +13,4 @@ pub use help::{HELP, VERSION};
 pub use mode::{Mode, WordKey};
 pub use requests::{FilePlay, PlayRequest, Request};
 pub use status::Status;
-pub use words::{USUAL_TURNS, WordsRefused, read_words};
+pub use words::{USUAL_TURNS, WordsRefused, mode_of, read_words};

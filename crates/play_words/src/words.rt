@@ -349,8 +349,8 @@ fn mode_named(word: &str) -> Option<Mode>
     mode_of_codes(word)
 }
 
-// The mode that the first word names.
-fn mode_of(words: &[String]) -> Option<Mode>
+/// The mode that the first word names.
+pub fn mode_of(words: &[String]) -> Option<Mode>
     ensures some { IfSome result (λ _. 0 < length words.now) }
     ensures mode { IfSome result (HasMode (map string_bytes words.now)) }
     ensures none { IfNone result ((mode : Mode) → HasMode (map string_bytes words.now) mode → ⊥) }

@@ -10,3 +10,4 @@ mod silence;
 mod watching;
 
 pub use first_turns::{Verdict, quiet_play};
+pub use silence::Silence;

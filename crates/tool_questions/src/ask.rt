@@ -13,7 +13,9 @@ use tool_frame::NoAnswer;
 use tool_io::{Lines, Sink};
 
 /// Refuses a word of the command, counted from 1.
-pub(crate) fn refuse<K: Sink>(n: u32, lines: &mut Lines<K>) -> Result<Status, NoAnswer>
+///
+/// `Write` as of the sink.
+pub fn refuse<K: Sink>(n: u32, lines: &mut Lines<K>) -> Result<Status, NoAnswer>
     requires { IsWhole lines.old }
     ensures { Says K.Sink (IsUsage n) ⊥ lines.old lines.new result }
 {

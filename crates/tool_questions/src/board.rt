@@ -125,14 +125,35 @@ fn check_text<K: Sink>(alloc: Global, text: &[u8], lines: &mut Lines<K>) -> Resu
     }
 }
 
-// Says that a text is too long.
-fn answer_long<K: Sink>(alloc: Global, lines: &mut Lines<K>) -> Result<Status, NoAnswer>
+/// Says that a text is too long to be a board.
+///
+/// `Write` as of the sink; `Memory` is want of memory, and then nothing has reached the sink.
+pub fn answer_long<K: Sink>(alloc: Global, lines: &mut Lines<K>) -> Result<Status, NoAnswer>
     requires whole { IsWhole lines.old }
     ensures { Says K.Sink IsLongBoardAnswer ⊥ lines.old lines.new result }
 {
     let why = board_reason_explanation(alloc, BoardReason::TooLong)?;
     put_fault(lines, 0, BoardReason::TooLong, &why)?;
     Ok(Status::Done(0))
+}
+
+/// Says what is known of the line with this number, counted from 1, of a text, which may be any bytes: what `--line`
+/// says of it.
+///
+/// `Write` as of the sink; `Memory` is want of memory, and then nothing has reached the sink.
+pub fn show_line<K: Sink>(
+    alloc: Global,
+    text: &[u8],
+    number: u32,
+    lines: &mut Lines<K>,
+) -> Result<Status, NoAnswer>
+    requires { IsWhole lines.old }
+    ensures { Says K.Sink (LineAnswer text.now number) ⊥ lines.old lines.new result }
+{
+    if text.len() > MOST_BYTES {
+        return answer_long(alloc, lines);
+    }
+    answer_text(alloc, text, number, lines)
 }
 
 // Says what is known of the line with this number, counted from 1, of the board in a file, which may be any bytes.

@@ -52,7 +52,7 @@ fn put_line<K: Sink>(lines: &mut Lines<K>, number: u32, line: &[u8]) -> Result<(
 /// Puts how many devices a board has.
 ///
 /// `Failed` as of the sink.
-pub(crate) fn put_devices<K: Sink>(lines: &mut Lines<K>, devices: &[Desc]) -> Result<(), Failed>
+pub fn put_devices<K: Sink>(lines: &mut Lines<K>, devices: &[Desc]) -> Result<(), Failed>
     requires whole { IsWhole lines.old }
     requires few { length devices.now ≤ most_devices }
     ensures { HasPut K.Sink lines.old (devices_line devices.now) lines.new result }

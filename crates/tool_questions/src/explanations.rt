@@ -21,8 +21,8 @@ fn is_about(line: &str, head: &[u8]) -> bool
     bytes[..most].eq_ignore_ascii_case(head)
 }
 
-// One text after another.
-fn joined(alloc: Global, front: &[u8], rest: &[u8]) -> Result<Vec<u8>, AllocError>
+/// One text after another. The only error is want of memory.
+pub fn joined(alloc: Global, front: &[u8], rest: &[u8]) -> Result<Vec<u8>, AllocError>
     ensures { IfOk result (λ text. text.items ≡ front.now ++ rest.now) }
 {
     let mut text = Vec::from_slice(alloc, front)?;
@@ -30,8 +30,8 @@ fn joined(alloc: Global, front: &[u8], rest: &[u8]) -> Result<Vec<u8>, AllocErro
     Ok(text)
 }
 
-// The lines of the table that begin with these bytes.
-fn lines_with(alloc: Global, head: &[u8]) -> Result<Vec<&'static str>, AllocError>
+/// The lines of the table that begin with these bytes, in whatever letter case. The only error is want of memory.
+pub fn lines_with(alloc: Global, head: &[u8]) -> Result<Vec<&'static str>, AllocError>
     ensures { IfOk result (λ found. map (λ line. line.now) found.items ≡ paragraphs head.now) }
 {
     EXPLANATIONS

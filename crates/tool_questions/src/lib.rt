@@ -15,5 +15,10 @@ mod questioner;
 mod report;
 mod words;
 
-pub use ask::ask_question;
+pub use ask::{ask_question, refuse};
+pub use board::{answer_long as show_long_board, show_line};
+pub use board_lines::put_devices;
+pub use explanations::{joined, lines_with, put_paragraphs};
+pub use piece::{answer_long as show_long_program, show_piece};
 pub use questioner::Questioner;
+pub use words::words_after;

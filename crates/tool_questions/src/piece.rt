@@ -104,8 +104,10 @@ fn answer_text<K: Sink>(
     answer_report(text, number, report, &why, lines)
 }
 
-// Says that a text is too long.
-fn answer_long<K: Sink>(alloc: Global, lines: &mut Lines<K>) -> Result<Status, NoAnswer>
+/// Says that a text is too long to be a program.
+///
+/// `Write` as of the sink; `Memory` is want of memory, and then nothing has reached the sink.
+pub fn answer_long<K: Sink>(alloc: Global, lines: &mut Lines<K>) -> Result<Status, NoAnswer>
     requires whole { IsWhole lines.old }
     ensures { Says K.Sink IsLongAnswer ⊥ lines.old lines.new result }
 {
@@ -116,6 +118,25 @@ fn answer_long<K: Sink>(alloc: Global, lines: &mut Lines<K>) -> Result<Status, N
     let why = why_refused(alloc, Some(refusal))?;
     put_refused(lines, 0, refusal, &why)?;
     Ok(Status::Done(0))
+}
+
+/// Says what is known of the piece with this number, counted from 1, of a text, which may be any bytes: what `--piece`
+/// says of it.
+///
+/// `Write` as of the sink; `Memory` is want of memory, and then nothing has reached the sink.
+pub fn show_piece<K: Sink>(
+    alloc: Global,
+    text: &[u8],
+    number: u32,
+    lines: &mut Lines<K>,
+) -> Result<Status, NoAnswer>
+    requires { IsWhole lines.old }
+    ensures { Says K.Sink (PieceAnswer text.now number) ⊥ lines.old lines.new result }
+{
+    if text.len() > TEXT_LIMIT {
+        return answer_long(alloc, lines);
+    }
+    answer_text(alloc, text, number, lines)
 }
 
 // Says what is known of the piece with this number, counted from 1, of the program in a file, which may be any bytes.

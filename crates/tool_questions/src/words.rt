@@ -5,7 +5,7 @@ ghost use Rattle.tool_questions.specs.Questions.{IsFileNamed, AreFileUsage, IsPa
 use command_words::{number_under, path_under};
 
 /// The words after the first, if that is this one.
-pub(crate) fn words_after<'a>(first: &str, words: &'a [String]) -> Option<&'a [String]>
+pub fn words_after<'a>(first: &str, words: &'a [String]) -> Option<&'a [String]>
     ensures some { IfSome result (λ rest. map string_bytes words.now ≡ first.now ∷ map string_bytes rest.now) }
     ensures none { IfNone result ((rest : List (List ℕ)) → map string_bytes words.now ≡ first.now ∷ rest → ⊥) }
 {
