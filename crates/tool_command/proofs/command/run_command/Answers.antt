@@ -14,9 +14,10 @@ use Rattle.tool_questions.specs.Statuses.{question_status}
 use Rattle.tool_frame.specs.Commands.{text_asked, shown}
 use Rattle.tool_frame.proofs.ShownLemmas.{tool_answers}
 use Rattle.play_words.specs.declared.help.TheConstants.{HELP, VERSION}
-use Rattle.tool_command.specs.Commands.{by_tool, by_question, files_of_request, file_of_question}
+use Rattle.tool_command.specs.Commands.{by_tool, by_question, files_of_request, file_of_question, files_of_why}
 use Rattle.tool_command.proofs.CommandLemmas.{has_no_mode}
 use Rattle.tool_command.proofs.QuestionLemmas.{run_wrote, run_failed, failed_wrote}
+use Rattle.tool_command.proofs.WhyLemmas.{why_no_question, why_not_of_tool, question_not_of_tool, same_rest, why_status, why_rack, play_rack}
 use Rattle.tool_command.proofs.command.run_command.Goals as goal
 
 pub returns-in-Ok-clause-answer : goal.returns-in-Ok-clause-answer
@@ -41,6 +42,7 @@ returns-in-Err-clause-write g c = λ _.
         of_answer = λ _. of_any_words (g.S.Shelf.told c.args.shelf.now) words (λ contents.
             record { text = c.in-Some.text.now; status = _; answer = shown c.in-Some.text.now text; front = c.in-Err.ensures.front });
         of_question = λ asks. absurd (false≢true (sym c.if-ask_question.false ∙ c.ask_question.ensures ∙ asks));
+        of_why = λ rest e. absurd (c.in-None.ensures.none rest e);
       };
     }
 
@@ -67,6 +69,7 @@ returns-in-None-clause-write g c = λ fault.
         of_answer = λ _. of_files_as (λ contents a.
             front_within_written (tool_answers HELP.now VERSION.now _ (WordsAnswer words (λ request. contents)) words none) a) failed.front;
         of_question = λ asks. absurd (false≢true (sym c.if-ask_question.false ∙ c.ask_question.ensures ∙ asks));
+        of_why = λ rest e. absurd (c.in-None.ensures.none rest e);
       };
     }
 
@@ -101,7 +104,7 @@ returns-then-ask_question-clause-kept g c =
     }
 
 pub returns-then-ask_question-clause-answer : goal.returns-then-ask_question-clause-answer
-returns-then-ask_question-clause-answer g c = λ works none. absurd (false≢true (sym none ∙ sym c.ask_question.ensures ∙ c.if-ask_question.true))
+returns-then-ask_question-clause-answer g c = λ works tool. absurd (question_not_of_tool _ (sym c.ask_question.ensures ∙ c.if-ask_question.true) tool)
 
 pub returns-then-ask_question-clause-question : goal.returns-then-ask_question-clause-question
 returns-then-ask_question-clause-question g c = λ works asks.
@@ -126,7 +129,8 @@ returns-then-ask_question-clause-write g c = λ e.
     record {
       cause = c.run.ensures.sink.write (run_failed (question_status (first_of ran.contents) words) _ _ c.run.result Write ran.holds.written same);
       front = record {
-        of_answer = λ none. absurd (false≢true (sym none ∙ sym c.ask_question.ensures ∙ c.if-ask_question.true));
+        of_answer = λ tool. absurd (question_not_of_tool _ (sym c.ask_question.ensures ∙ c.if-ask_question.true) tool);
+        of_why = λ rest e. absurd (why_no_question e (sym c.ask_question.ensures ∙ c.if-ask_question.true));
         of_question = λ asks. of_files_as (λ contents ran. failed_wrote (question_status (first_of contents) words) _ _ c.run.result Write ran.written same) ran;
       };
     }
@@ -135,3 +139,6 @@ pub returns-then-ask_question-clause-memory : goal.returns-then-ask_question-cla
 returns-then-ask_question-clause-memory g c = λ e.
     let ran = c.run.ensures.ran in
     failed_wrote (question_status (first_of ran.contents) (map (string_bytes {Z = Global}) c.args.words.now)) _ _ c.run.result Memory ran.holds.written (sym c.status_of.ensures ∙ e)
+
+pub returns-then-ask_question-clause-why : goal.returns-then-ask_question-clause-why
+returns-then-ask_question-clause-why g c = λ works rest e. absurd (why_no_question e (sym c.ask_question.ensures ∙ c.if-ask_question.true))
