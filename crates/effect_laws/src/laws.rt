@@ -1,0 +1,2 @@
+//! Laws of the definitions, by their subjects.
+pub mod frame;
