@@ -1,4 +1,4 @@
--- What survives a change of a variable, of the records or of how scans go, survives each effect that makes such changes.
+-- What survives a change of a variable, of the records or of how scans go survives each effect that makes such changes
 use Rattle.std.proofs.Common.{◌≡◌, ℕ, ℤ, pos, Bool, true, false, List, [], ◌∷◌, ◌++◌, length, Option, Some, None, refl, sym, subst, if◌then◌else◌, ◌==◌, slice_get}
 use Rattle.std.specs.Prelude.{slice_set, take, drop, nat_lt, nat_le, ◌+ℤ◌}
 use Rattle.std.specs.Int.{int_wrap, w32}
@@ -25,7 +25,7 @@ use Rattle.stapl_meaning.specs.Scans.{with_padding, with_stop, stopped, padding_
 use Rattle.effect_laws.proofs.Rows.{InDid, Has, then_has, any_has}
 
 module _ (Q : State → Type 0) where
-  -- it survives a change of the variable of number n, any change of the records, of how scans go, or of the procedures still to run
+  -- it survives a change of the variable of number n, any change of the records, or of the procedures still to run
   abbrev pub Writes : ℕ → Type 0
   Writes n = (h : Held) (t : State) → Q t → Q (with_variables t (slice_set t.store.variables n h))
 

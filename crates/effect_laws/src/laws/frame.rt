@@ -11,9 +11,10 @@ ghost use Rattle.effect_laws.specs.Kept.{HoldsAfter};
 /// the records, only paddings and stop states change how later scans go, and only ENDPROC changes which procedures are
 /// still to run. An IF may change what its inner statement may.
 pub fn a_turn_changes_only_what_its_statement_names()
-    ensures variables { (program : Played) (i n : ℕ) (s : State) (st : StmtTree) → slice_get program.pieces i ≡ Some st →
-        ((name : List ℕ) → Assigns st.body name → (scope_at program i).look.variable name ≢ n) →
-        HoldsAfter (λ t. slice_get t.store.variables n ≡ slice_get s.store.variables n) (turn program i s) }
+    ensures variables { (program : Played) (i n : ℕ) (s : State) (st : StmtTree) →
+        slice_get program.pieces i ≡ Some st → ((name : List ℕ) → Assigns st.body name →
+        (scope_at program i).look.variable name ≢ n) → HoldsAfter (λ t.
+        slice_get t.store.variables n ≡ slice_get s.store.variables n) (turn program i s) }
     ensures records { (program : Played) (i : ℕ) (s : State) (st : StmtTree) → slice_get program.pieces i ≡ Some st →
         ¬ UsesRecords st.body → HoldsAfter (λ t. t.records ≡ s.records) (turn program i s) }
     ensures scans { (program : Played) (i : ℕ) (s : State) (st : StmtTree) → slice_get program.pieces i ≡ Some st →
