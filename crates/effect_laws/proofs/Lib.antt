@@ -5,3 +5,6 @@ pub mod Singles
 pub mod Stacks
 pub mod Ways
 pub mod Loops
+pub mod Later
+pub mod Chains
+pub mod Texts

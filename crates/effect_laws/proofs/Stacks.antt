@@ -15,7 +15,7 @@ use Rattle.stapl_meaning.specs.declared.values.Value.{Value}
 use Rattle.stapl_meaning.specs.declared.values.Held.{Held}
 use Rattle.stapl_meaning.specs.declared.values.Held.TheVariants as held
 use Rattle.stapl_meaning.specs.Values.{Known, then_get, Lookup, value_of}
-use Rattle.stapl_meaning.specs.Operands.{plain, values_of, printed_kind, given_kind}
+use Rattle.stapl_meaning.specs.Operands.{plain, operand_value, values_of, printed_kind, given_kind}
 use Rattle.stapl_meaning.specs.States.{State, Falls, Leads}
 use Rattle.stapl_meaning.specs.Effects.{with_scalar, replaced, scalar_written, written, assigned, with_variables, with_records, number_of, value_as, topmost, popped}
 use Rattle.stapl_meaning.specs.Scopes.{Played, scope_at}
@@ -57,16 +57,20 @@ pushed_kind None other = refl
 pushed_kind (Some names.Bool) other = absurd (other refl)
 pushed_kind (Some _) other = refl
 
+-- a value of its own kind, which is printed, exported or pushed
+pub printed_known : (look : Lookup) (s : State) (before : Option Value) (e : ExprTree) (v : Value) → HasValue look s e v →
+    operand_value look s.store.variables before (plain (printed_kind (expr_kind look.kind e)) e) ≡ Known v
+printed_known look s before e v (bit is value) =
+    plain_known look s.store.variables before (printed_kind (expr_kind look.kind e)) e v
+    (ap (λ kind. value_of look s.store.variables (printed_kind kind) e) is ∙ value)
+printed_known look s before e v (integer other value) =
+    plain_known look s.store.variables before (printed_kind (expr_kind look.kind e)) e v
+    (ap (λ kind. value_of look s.store.variables kind e) (pushed_kind (expr_kind look.kind e) other) ∙ value)
+
 pub pushed_value : (look : Lookup) (s : State) (e : ExprTree) (v : Value) → HasValue look s e v →
     values_of look s.store.variables (plain (printed_kind (expr_kind look.kind e)) e ∷ []) ≡ Known (v ∷ [])
-pushed_value look s e v (bit is value) =
-    next_known look s.store.variables None (plain (printed_kind (expr_kind look.kind e)) e) [] v []
-    (plain_known look s.store.variables None (printed_kind (expr_kind look.kind e)) e v
-    (ap (λ kind. value_of look s.store.variables (printed_kind kind) e) is ∙ value)) refl
-pushed_value look s e v (integer other value) =
-    next_known look s.store.variables None (plain (printed_kind (expr_kind look.kind e)) e) [] v []
-    (plain_known look s.store.variables None (printed_kind (expr_kind look.kind e)) e v
-    (ap (λ kind. value_of look s.store.variables kind e) (pushed_kind (expr_kind look.kind e) other) ∙ value)) refl
+pushed_value look s e v is =
+    next_known look s.store.variables None (plain (printed_kind (expr_kind look.kind e)) e) [] v [] (printed_known look s None e v is) refl
 
 module _ (program : Played) (i j : ℕ) (s : State) (e : ExprTree) (v : Value) (name : List ℕ) (old new : Held) where
   after_push : State

@@ -4,3 +4,6 @@ pub mod Given
 pub mod Stack
 pub mod Ways
 pub mod Loops
+pub mod Scans
+pub mod Chains
+pub mod Texts
