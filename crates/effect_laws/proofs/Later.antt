@@ -47,7 +47,7 @@ ones n = record {
       slice_get-get_or (replicate n true) k false (omega (arith, size, less)) ∙ ap Some (get_or-replicate n k true false less);
 }
 
-first_bits : (n : ℕ) (bits : List Bool) → n ≤ length bits → AreFirst n bits (take n bits)
+pub first_bits : (n : ℕ) (bits : List Bool) → n ≤ length bits → AreFirst n bits (take n bits)
 first_bits n bits most = record {
   count = length-take-le n bits most;
   each = λ k less.

@@ -8,3 +8,4 @@ pub mod Loops
 pub mod Later
 pub mod Chains
 pub mod Texts
+pub mod Captured

@@ -7,3 +7,4 @@ pub mod Loops
 pub mod Scans
 pub mod Chains
 pub mod Texts
+pub mod Captures

@@ -2,7 +2,7 @@
 ghost use Rattle.std.specs.Prelude.{◌≡◌, ◌≤◌, ℕ, pos, Bool, List, Option, Some, None, length};
 ghost use Rattle.stapl_lexer.specs.declared.terminal.Padding.{Padding};
 ghost use Rattle.stapl_lexer.specs.declared.terminal.Register.{Register};
-ghost use Rattle.stapl_syntax.specs.Trees.{ExprTree, ArrayTree, whole, CompareTree, scan, pad, stop};
+ghost use Rattle.stapl_syntax.specs.Trees.{ExprTree, ArrayTree, whole, CompareTree, scalar, scan, pad, stop};
 ghost use Rattle.tap_states.specs.declared.Tap.{Tap};
 ghost use Rattle.dev_card.specs.Scans.{BoardScan};
 ghost use Rattle.stapl_meaning.specs.declared.values.Held.TheVariants as held;
@@ -13,6 +13,7 @@ ghost use Rattle.stapl_meaning.specs.Turns.{turn};
 ghost use Rattle.effect_laws.specs.Given.{StandsAt, HasInteger, Holds, number_at};
 ghost use Rattle.effect_laws.specs.Scans.{AreOnes, AreFirst, SetsPadding, SetsStop, ScansAs};
 ghost use Rattle.effect_laws.specs.Chains.{IsStable};
+ghost use Rattle.effect_laws.specs.Captures.{Scans, HoldsCaptured};
 
 /// PREIR, POSTIR, PREDR and POSTDR set one padding: so many ones, or the first so many bits of an array. IRSTOP and
 /// DRSTOP set the state in which scans end. All else of how scans go is as it was.
@@ -35,4 +36,24 @@ pub fn scans_go_by_what_was_set()
         (target : Option ArrayTree) (compare : Option CompareTree) (deeds : List Deed) (job : BoardScan)
         (rest : List Bool → Turned) → StandsAt program i (scan register count source target compare) →
         turn program i s ≡ Scanning deeds job rest → ScansAs s job register }
+{}
+
+/// A scan of whole arrays shifts in the first bits of its source. The first places of its target are the captured bits,
+/// and its result is 1 exactly if each captured bit under a mask bit 1 is the expected one, as the arrays were before
+/// the scan.
+pub fn a_scan_captures_and_compares_bit_by_bit()
+    ensures { (program : Played) (i n : ℕ) (s : State) (register : Register) (count : ExprTree)
+        (source target expected mask result : List ℕ) (bits old wanted masked : List Bool) (was : Bool) →
+        StandsAt program i
+        (scan register count (whole source) (Some (whole target)) (Some (whole expected, (whole mask, scalar result)))) →
+        HasInteger (scope_at program i).look s count (pos n) → 1 ≤ n → n ≤ 4194304 →
+        Holds s (number_at program i source) (held.Bits bits) → n ≤ length bits →
+        Holds s (number_at program i target) (held.Bits old) → n ≤ length old →
+        Holds s (number_at program i expected) (held.Bits wanted) → n ≤ length wanted →
+        Holds s (number_at program i mask) (held.Bits masked) → n ≤ length masked →
+        Holds s (number_at program i result) (held.Bit was) →
+        Scans program i n s bits (HoldsCaptured (record {
+          array = number_at program i target;
+          result = number_at program i result;
+        }) n masked wanted old) }
 {}
