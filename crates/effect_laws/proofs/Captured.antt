@@ -25,8 +25,8 @@ use Rattle.effect_laws.specs.Given.{StandsAt, HasInteger, Holds, number_at}
 use Rattle.effect_laws.specs.Scans.{AreFirst}
 use Rattle.effect_laws.specs.Captures.{IsFilled, Agree, HoldsCaptured, Scans}
 use Rattle.effect_laws.proofs.Singles.{plain_known, next_known, one_row}
-use Rattle.effect_laws.proofs.Frames.{other_variable}
-use Rattle.effect_laws.proofs.Stacks.{new_variable}
+use Rattle.effect_laws.proofs.Frames.{other_item}
+use Rattle.effect_laws.proofs.Stacks.{new_item}
 use Rattle.effect_laws.proofs.Later.{first_bits}
 
 -- ---- captured bits in an array
@@ -176,7 +176,7 @@ module _ (look : Lookup) (s : State) (register : Register) (source target expect
     lands_so =
         rw is_old
         (let there : slice_get filled_variables (look.variable result) ≡ Some (held.Bit was) =
-        other_variable s.store.variables (look.variable target) (look.variable result) (held.Bits now) other_number ∙ is_was in
+        other_item s.store.variables (look.variable target) (look.variable result) (held.Bits now) other_number ∙ is_was in
         ap (λ o. known_or filled_variables (scalar_written filled_variables (look.variable result) o (Bit told))) there)
 
     pub captured_so : n ≤ length old → n ≤ length wanted → n ≤ length masked → length captured ≡ n →
@@ -186,14 +186,14 @@ module _ (look : Lookup) (s : State) (register : Register) (source target expect
       now = now;
       holds =
           ap (λ vs. slice_get vs (look.variable target)) lands_so
-          ∙ other_variable filled_variables (look.variable result) (look.variable target) (held.Bit told) (λ e. other_number (sym e))
-          ∙ new_variable s.store.variables (look.variable target) (held.Bits old) (held.Bits now) is_old;
+          ∙ other_item filled_variables (look.variable result) (look.variable target) (held.Bit told) (λ e. other_number (sym e))
+          ∙ new_item s.store.variables (look.variable target) (held.Bits old) (held.Bits now) is_old;
       filled = filled n captured old long b;
       bit = told;
       result =
           ap (λ vs. slice_get vs (look.variable result)) lands_so
-          ∙ new_variable filled_variables (look.variable result) (held.Bit was) (held.Bit told)
-          (other_variable s.store.variables (look.variable target) (look.variable result) (held.Bits now) other_number ∙ is_was);
+          ∙ new_item filled_variables (look.variable result) (held.Bit was) (held.Bit told)
+          (other_item s.store.variables (look.variable target) (look.variable result) (held.Bits now) other_number ∙ is_was);
       agrees = agrees_so n masked wanted captured d c long;
     }
 

@@ -1,5 +1,5 @@
 -- What each statement leaves as it was.
-use Rattle.std.proofs.Common.{◌≡◌, ◌≢◌, ◌<◌, ◌≤◌, ◌⊎◌, inl, inr, ℕ, Bool, false, List, length, Option, Some, None, refl, sym, ap, ◌∙◌, arith, slice_get}
+use Rattle.std.proofs.Common.{◌≡◌, ◌≢◌, ◌<◌, ◌≤◌, ◌⊎◌, inl, inr, ℕ, Bool, List, length, Option, Some, None, refl, sym, ap, ◌∙◌, arith, slice_get}
 use Rattle.std.specs.Prelude.{slice_set}
 use Rattle.std.proofs.lemmas.Bool.{cases_lt}
 use Rattle.std.proofs.lemmas.List.{get_or-set_other, length-set}
@@ -10,8 +10,6 @@ use Rattle.stapl_lexer.specs.declared.terminal.Register.{Register}
 use Rattle.stapl_lexer.specs.declared.terminal.Register.TheVariants as registers
 use Rattle.stapl_syntax.specs.Trees.{ExprTree, scalar, element, ArrayTree, whole, range, literal, of_int, CompareTree, BodyTree, boolean, boolean_array, integer, integer_array, assign, assign_element, assign_array, assign_range, call, goto, if_then, for_loop, next, push, pop, print, export, exported_value, exported_array, exit, scan, stop, pad, state_list, wait_cycles, wait_usec, frequency, end_procedure, StmtTree}
 use Rattle.tap_states.specs.declared.Tap.{Tap}
-use Rattle.stapl_meaning.specs.declared.values.Held.{Held}
-use Rattle.stapl_meaning.specs.declared.values.Held.TheVariants as held
 use Rattle.stapl_meaning.specs.States.{ScanSettings, State}
 use Rattle.stapl_meaning.specs.Scopes.{Scope, Played, scope_at}
 use Rattle.stapl_meaning.specs.declared.waits.WaitKind.TheVariants as waits
@@ -103,19 +101,19 @@ module _ (Q : State → Type 0) (scope : Scope) where
   rows_keep (integer_array name size (Some zs)) k = (row_keeps (integer_array name size (Some zs)) k, tt)
   rows_keep b k = (row_keeps b k, tt)
 
--- another variable is not changed
-pub other_variable : (variables : List Held) (n m : ℕ) (h : Held) → m ≢ n → slice_get (slice_set variables n h) m ≡ slice_get variables m
-other_variable variables n m h other = by (cases_lt m (length variables))
+-- another item is not changed
+pub other_item : {X : Type 0} (xs : List X) (n m : ℕ) (x : X) → m ≢ n → slice_get (slice_set xs n x) m ≡ slice_get xs m
+other_item xs n m x other = by (cases_lt m (length xs))
   where
-    size : length (slice_set variables n h) ≡ length variables
-    size = length-set variables n h
+    size : length (slice_set xs n x) ≡ length xs
+    size = length-set xs n x
 
-    by : (m < length variables) ⊎ (length variables ≤ m) → slice_get (slice_set variables n h) m ≡ slice_get variables m
+    by : (m < length xs) ⊎ (length xs ≤ m) → slice_get (slice_set xs n x) m ≡ slice_get xs m
     by (inl less) =
-        slice_get-get_or (slice_set variables n h) m (held.Bit false) (omega (arith, size, less))
-        ∙ ap Some (get_or-set_other variables n m h (held.Bit false) other)
-        ∙ sym (slice_get-get_or variables m (held.Bit false) less)
-    by (inr most) = slice_get_past (slice_set variables n h) m (omega (arith, size, most)) ∙ sym (slice_get_past variables m most)
+        slice_get-get_or (slice_set xs n x) m x (omega (arith, size, less))
+        ∙ ap Some (get_or-set_other xs n m x x other)
+        ∙ sym (slice_get-get_or xs m x less)
+    by (inr most) = slice_get_past (slice_set xs n x) m (omega (arith, size, most)) ∙ sym (slice_get_past xs m most)
 
 -- what speaks of no settings of scans survives these
 sets_alone : (Q : State → Type 0) → ((settings other : ScanSettings) (t : State) → Q t → Q (record t { ir = settings; dr = other })) → Sets Q
@@ -140,7 +138,7 @@ module _ (program : Played) (i : ℕ) (s : State) (st : StmtTree) (stands : slic
   keeps_variable n others =
       after (λ t. slice_get t.store.variables n ≡ slice_get s.store.variables n) refl
       (record {
-        writes = λ name a h t q. other_variable t.store.variables ((scope_at program i).look.variable name) n h (λ e. others name a (sym e)) ∙ q;
+        writes = λ name a h t q. other_item t.store.variables ((scope_at program i).look.variable name) n h (λ e. others name a (sym e)) ∙ q;
         stacks = λ u records t q. q;
         sets = λ u. sets_alone (λ t. slice_get t.store.variables n ≡ slice_get s.store.variables n) (λ settings other t q. q);
         chooses = λ u chosen t q. q;

@@ -9,3 +9,4 @@ pub mod Later
 pub mod Chains
 pub mod Texts
 pub mod Captured
+pub mod Assignments

@@ -25,7 +25,7 @@ use Rattle.stapl_meaning.specs.Turns.{turn}
 use Rattle.effect_laws.specs.Given.{StandsAt, HasInteger, HasRoom, Holds, number_at}
 use Rattle.effect_laws.specs.Loops.{StepIs, written, left_out, AreOtherLoops, none, other, IsShort, below, above, IsThere, upwards, downwards, FitsInteger, steps_from, MeetsLoop, GoesBack, AreRounds, GoesRound}
 use Rattle.effect_laws.proofs.Singles.{plain_known, next_known, roomy, one_row}
-use Rattle.effect_laws.proofs.Stacks.{new_variable}
+use Rattle.effect_laws.proofs.Stacks.{new_item}
 
 apart : (a b : ℕ) → a ≢ b → (a == b) ≡ false
 apart a b different = by (eqb_tells a b)
@@ -146,7 +146,7 @@ module _ (program : Played) (i j : ℕ) (s : State) (name same : List ℕ) (from
     leads =
         one_row program j u (next same) [] (Resumes (i + 1) (set_loop loop s.records (z +ℤ by) u)) at_next refl refl
         (ap (λ n. repeated n [] u) one ∙ goes_on loop s.records u z meets short fits);
-    holds = new_variable u.store.variables loop.variable (held.Int z) (held.Int (z +ℤ by)) meets.holds;
+    holds = new_item u.store.variables loop.variable (held.Int z) (held.Int (z +ℤ by)) meets.holds;
     stand = refl;
   }
 
@@ -178,7 +178,7 @@ module _ (program : Played) (i j : ℕ) (s : State) (name same : List ℕ) (from
         one_row program i s (for_loop name from to step) (Int first ∷ Int limit ∷ Int by ∷ []) (Falls [] begun) at_for refl
         (three_known (scope_at program i).look s from to step first limit by is_first is_limit is_step)
         (begins_known loop s first old some room there);
-    holds = new_variable s.store.variables loop.variable (held.Int old) (held.Int first) there;
+    holds = new_item s.store.variables loop.variable (held.Int old) (held.Int first) there;
     again = again;
     over = over;
     times = λ k states rounds come short. (

@@ -25,11 +25,12 @@ use Rattle.effect_laws.specs.Stack.{Receives, zero_of_bit, one_of_bit, bit_of_ze
 use Rattle.effect_laws.specs.Stack as stack
 use Rattle.effect_laws.proofs.Singles.{plain_known, next_known, roomy, one_row}
 
-pub new_variable : (variables : List Held) (n : ℕ) (old new : Held) → slice_get variables n ≡ Some old → slice_get (slice_set variables n new) n ≡ Some new
-new_variable variables n old new there =
-    let within : n < length variables = slice_get_within variables n old there in
-    let size : length (slice_set variables n new) ≡ length variables = length-set variables n new in
-    slice_get-get_or (slice_set variables n new) n new (omega (arith, size, within)) ∙ ap Some (get_or-set_same variables n new new within)
+-- the item that was set
+pub new_item : {X : Type 0} (xs : List X) (n : ℕ) (old new : X) → slice_get xs n ≡ Some old → slice_get (slice_set xs n new) n ≡ Some new
+new_item xs n old new there =
+    let within : n < length xs = slice_get_within xs n old there in
+    let size : length (slice_set xs n new) ≡ length xs = length-set xs n new in
+    slice_get-get_or (slice_set xs n new) n new (omega (arith, size, within)) ∙ ap Some (get_or-set_same xs n new new within)
 
 -- the scalar of a number is given a value of its kind
 pub assigned_known : (n : ℕ) (s : State) (old new : Held) (v : Value) → slice_get s.store.variables n ≡ Some old → with_scalar old v ≡ Known new →
@@ -89,7 +90,7 @@ module _ (program : Played) (i j : ℕ) (s : State) (e : ExprTree) (v : Value) (
       record {
         after = t;
         leads = one_row program j u (pop (scalar name)) [] (Falls [] t) stands refl refl does;
-        holds = new_variable u.store.variables n old new there;
+        holds = new_item u.store.variables n old new there;
         records = refl;
       }
 

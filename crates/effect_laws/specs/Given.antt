@@ -1,11 +1,12 @@
 -- What is given to a turn: its statement, the values of expressions, and room for a record.
-use Rattle.std.specs.Prelude.{◌≡◌, ◌≢◌, ◌<◌, ℕ, ℤ, List, length, Option, Some, slice_get}
+use Rattle.std.specs.Prelude.{◌≡◌, ◌≢◌, ◌<◌, ℕ, ℤ, Bool, List, length, Option, Some, slice_get}
 use Rattle.stapl_syntax.specs.declared.names.Kind.TheVariants.{Bool as Bit}
 use Rattle.stapl_syntax.specs.Kinds.{expr_kind}
 use Rattle.stapl_syntax.specs.Trees.{ExprTree, BodyTree}
 use Rattle.stapl_meaning.specs.declared.values.ValueKind.TheVariants as kinds
 use Rattle.stapl_meaning.specs.declared.values.Value.{Value}
 use Rattle.stapl_meaning.specs.declared.values.Value.TheVariants.{Int}
+use Rattle.stapl_meaning.specs.declared.values.Value.TheVariants as values
 use Rattle.stapl_meaning.specs.declared.values.Held.{Held}
 use Rattle.stapl_meaning.specs.Values.{Known, Lookup, value_of}
 use Rattle.stapl_meaning.specs.States.{State}
@@ -27,6 +28,10 @@ pub data HasValue (look : Lookup) (s : State) (e : ExprTree) (v : Value) : Type 
 -- an expression has this value where an integer is wanted
 abbrev pub HasInteger : Lookup → State → ExprTree → ℤ → Type 0
 HasInteger look s e z = value_of look s.store.variables kinds.Int e ≡ Known (Int z)
+
+-- an expression has this value where a bit is wanted
+abbrev pub HasBit : Lookup → State → ExprTree → Bool → Type 0
+HasBit look s e b = value_of look s.store.variables kinds.Bit e ≡ Known (values.Bit b)
 
 -- the records have room for one more: there are at most 16384 (this profile)
 abbrev pub HasRoom : State → Type 0

@@ -8,3 +8,4 @@ pub mod Scans
 pub mod Chains
 pub mod Texts
 pub mod Captures
+pub mod Assigned

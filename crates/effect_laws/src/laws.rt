@@ -1,4 +1,5 @@
 //! Laws of the definitions, by their subjects.
+pub mod assignments;
 pub mod chains;
 pub mod frame;
 pub mod loops;
