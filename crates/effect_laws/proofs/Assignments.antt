@@ -26,6 +26,14 @@ use Rattle.effect_laws.proofs.Singles.{plain_known, next_known, one_row}
 use Rattle.effect_laws.proofs.Frames.{other_item}
 use Rattle.effect_laws.proofs.Stacks.{new_item, assigned_known}
 
+-- an item that was set
+pub one_new : {X : Type 0} (k : ℕ) (x : X) (old : List X) → k < length old → HasOneNew k x old (slice_set old k x)
+one_new k x old less = record {
+  size = length-set old k x;
+  here = new_item old k _ x (slice_get-get_or old k x less);
+  elsewhere = λ j other. other_item old k j x other;
+}
+
 module _ (program : Played) (i : ℕ) (s : State) (name : List ℕ) (e : ExprTree) where
   -- what is given has its value
   given : (before : Option Value) (kind : ValueKind) (v : Value) → given_kind ((scope_at program i).look.kind name) ≡ kind →
@@ -77,13 +85,6 @@ module _ (program : Played) (i : ℕ) (s : State) (name : List ℕ) (e : ExprTre
         (next_known (scope_at program i).look variables (Some (Int (pos k))) (plain (given_kind ((scope_at program i).look.kind name)) e) [] v []
         (given (Some (Int (pos k))) kind v is value) refl))
         (ap (λ o. written s (element_written variables n o (pos k) v)) there ∙ ap (λ g. written s (replaced variables n g)) fits)
-
-  one_new : {X : Type 0} (k : ℕ) (x : X) (old : List X) → k < length old → HasOneNew k x old (slice_set old k x)
-  one_new k x old less = record {
-    size = length-set old k x;
-    here = new_item old k _ x (slice_get-get_or old k x less);
-    elsewhere = λ j other. other_item old k j x other;
-  }
 
   pub gives_of_integers : (k : ℕ) (index : ExprTree) (old : List ℤ) (z : ℤ) → StandsAt program i (assign_element name index e) →
       (scope_at program i).look.kind name ≡ Some names.IntegerArray → HasInteger (scope_at program i).look s index (pos k) →

@@ -31,7 +31,7 @@ use Rattle.effect_laws.proofs.Later.{first_bits}
 
 -- ---- captured bits in an array
 
-filled : (n : ℕ) (captured old : List Bool) → length captured ≡ n → n ≤ length old → IsFilled n captured old (span_put (whole_span (length old)) captured old)
+pub filled : (n : ℕ) (captured old : List Bool) → length captured ≡ n → n ≤ length old → IsFilled n captured old (span_put (whole_span (length old)) captured old)
 filled n captured old long inside = record { size = size; new = new; others = others }
   where
     size : length (captured ++ drop (0 + length captured) old) ≡ length old
@@ -93,7 +93,7 @@ then_agree (x ∷ m) (y ∷ e) (z ∷ b) p q f =
     ap (λ c. c && agree m e b) (passes x y z (f 0))
     ∙ then_agree m e b (omega (arith, p)) (omega (arith, q)) (λ k. f (suc k))
 
-agrees_so : (n : ℕ) (mask expected captured : List Bool) → n ≤ length mask → n ≤ length expected → length captured ≡ n →
+pub agrees_so : (n : ℕ) (mask expected captured : List Bool) → n ≤ length mask → n ≤ length expected → length captured ≡ n →
     (agree (take n mask) (take n expected) captured ≡ true) ↔ Agree n mask expected captured
 agrees_so n mask expected captured p q long = (to, from)
   where
@@ -123,7 +123,7 @@ agrees_so n mask expected captured p q long = (to, from)
 
 -- ---- the scan
 
-scan_length : (n : ℕ) → 1 ≤ n → n ≤ 4194304 → length_between 1 scan_limit (pos n) ≡ Known n
+pub scan_length : (n : ℕ) → 1 ≤ n → n ≤ 4194304 → length_between 1 scan_limit (pos n) ≡ Known n
 scan_length n least most =
     let low : true ≡ int_le (pos 1) (pos n) = omega (arith, ints, least) in
     let high : true ≡ int_le (pos n) (pos 4194304) = omega (arith, ints, most) in

@@ -10,3 +10,4 @@ pub mod Chains
 pub mod Texts
 pub mod Captured
 pub mod Assignments
+pub mod CapturedInside

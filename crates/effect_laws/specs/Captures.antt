@@ -7,6 +7,7 @@ use Rattle.stapl_meaning.specs.Scopes.{Played}
 use Rattle.stapl_meaning.specs.Turns.{turn}
 use Rattle.effect_laws.specs.Given.{Holds}
 use Rattle.effect_laws.specs.Scans.{AreFirst}
+use Rattle.effect_laws.specs.Assigned.{HasOneNew}
 
 -- the first n bits of an array are those of a list, and all others are as they were
 pub record IsFilled (n : ℕ) (captured old now : List Bool) : Type 0 where
@@ -39,3 +40,14 @@ pub record Scans (program : Played) (i n : ℕ) (s : State) (bits : List Bool) (
   pub is : turn program i s ≡ Scanning [] job (λ captured. Leads [] (i + 1) (lands captured))
   pub shifted : AreFirst n bits job.bits
   pub after : (captured : List Bool) → length captured ≡ n → After captured (lands captured)
+
+-- The same if the result goes to an element of the array that took the captured bits: these are there first, and then
+-- the result is at its index.
+pub record HoldsResultInside (array n k : ℕ) (mask expected old captured : List Bool) (t : State) : Type 0 where
+  pub filled : List Bool
+  pub is_filled : IsFilled n captured old filled
+  pub bit : Bool
+  pub agrees : (bit ≡ true) ↔ Agree n mask expected captured
+  pub now : List Bool
+  pub one_new : HasOneNew k bit filled now
+  pub holds : Holds t array (held.Bits now)

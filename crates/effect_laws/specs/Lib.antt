@@ -7,5 +7,5 @@ pub mod Loops
 pub mod Scans
 pub mod Chains
 pub mod Texts
-pub mod Captures
 pub mod Assigned
+pub mod Captures

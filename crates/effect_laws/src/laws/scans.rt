@@ -1,8 +1,8 @@
 //! Laws of how scans go.
-ghost use Rattle.std.specs.Prelude.{◌≡◌, ◌≤◌, ℕ, pos, Bool, List, Option, Some, None, length};
+ghost use Rattle.std.specs.Prelude.{◌≡◌, ◌≤◌, ◌<◌, ℕ, pos, Bool, List, Option, Some, None, length};
 ghost use Rattle.stapl_lexer.specs.declared.terminal.Padding.{Padding};
 ghost use Rattle.stapl_lexer.specs.declared.terminal.Register.{Register};
-ghost use Rattle.stapl_syntax.specs.Trees.{ExprTree, ArrayTree, whole, CompareTree, scalar, scan, pad, stop};
+ghost use Rattle.stapl_syntax.specs.Trees.{ExprTree, ArrayTree, whole, CompareTree, scalar, element, scan, pad, stop};
 ghost use Rattle.tap_states.specs.declared.Tap.{Tap};
 ghost use Rattle.dev_card.specs.Scans.{BoardScan};
 ghost use Rattle.stapl_meaning.specs.declared.values.Held.TheVariants as held;
@@ -13,7 +13,7 @@ ghost use Rattle.stapl_meaning.specs.Turns.{turn};
 ghost use Rattle.effect_laws.specs.Given.{StandsAt, HasInteger, Holds, number_at};
 ghost use Rattle.effect_laws.specs.Scans.{AreOnes, AreFirst, SetsPadding, SetsStop, ScansAs};
 ghost use Rattle.effect_laws.specs.Chains.{IsStable};
-ghost use Rattle.effect_laws.specs.Captures.{Scans, HoldsCaptured};
+ghost use Rattle.effect_laws.specs.Captures.{Scans, HoldsCaptured, HoldsResultInside};
 
 /// PREIR, POSTIR, PREDR and POSTDR set one padding: so many ones, or the first so many bits of an array. IRSTOP and
 /// DRSTOP set the state in which scans end. All else of how scans go is as it was.
@@ -40,9 +40,9 @@ pub fn scans_go_by_what_was_set()
 
 /// A scan of whole arrays shifts in the first bits of its source. The first places of its target are the captured bits,
 /// and its result is 1 exactly if each captured bit under a mask bit 1 is the expected one, as the arrays were before
-/// the scan.
+/// the scan. If the result goes to an element of the target, the captured bits are there before it.
 pub fn a_scan_captures_and_compares_bit_by_bit()
-    ensures { (program : Played) (i n : ℕ) (s : State) (register : Register) (count : ExprTree)
+    ensures scalar { (program : Played) (i n : ℕ) (s : State) (register : Register) (count : ExprTree)
         (source target expected mask result : List ℕ) (bits old wanted masked : List Bool) (was : Bool) →
         StandsAt program i
         (scan register count (whole source) (Some (whole target)) (Some (whole expected, (whole mask, scalar result)))) →
@@ -56,4 +56,17 @@ pub fn a_scan_captures_and_compares_bit_by_bit()
           array = number_at program i target;
           result = number_at program i result;
         }) n masked wanted old) }
+    ensures inside { (program : Played) (i n k : ℕ) (s : State) (register : Register) (count index : ExprTree)
+        (source target expected mask result : List ℕ) (bits old wanted masked : List Bool) →
+        StandsAt program i
+        (scan register count (whole source) (Some (whole target))
+        (Some (whole expected, (whole mask, element result index)))) →
+        HasInteger (scope_at program i).look s count (pos n) → 1 ≤ n → n ≤ 4194304 →
+        Holds s (number_at program i source) (held.Bits bits) → n ≤ length bits →
+        Holds s (number_at program i target) (held.Bits old) → n ≤ length old →
+        Holds s (number_at program i expected) (held.Bits wanted) → n ≤ length wanted →
+        Holds s (number_at program i mask) (held.Bits masked) → n ≤ length masked →
+        number_at program i result ≡ number_at program i target →
+        HasInteger (scope_at program i).look s index (pos k) → k < length old →
+        Scans program i n s bits (HoldsResultInside (number_at program i target) n k masked wanted old) }
 {}
