@@ -1,7 +1,8 @@
 -- On words that ask why, and on the answer to them.
-use Rattle.std.proofs.Common.{◌≡◌, ◌∙◌, ◌⊎◌, inl, inr, ℕ, Bool, true, false, not, ◌||◌, List, [], ◌∷◌, codes, map, Option, Result, Ok, Err, refl, sym, ap, subst}
-use Rattle.std.specs.Prelude.{IsErrOf}
+use Rattle.std.proofs.Common.{◌≡◌, ◌∙◌, ◌⊎◌, inl, inr, ℕ, Bool, true, false, not, ◌||◌, List, [], ◌∷◌, codes, map, Option, None, Some, Result, Ok, Err, refl, sym, ap, subst}
+use Rattle.std.specs.Prelude.{IsErrOf, IfNone}
 use Rattle.std.proofs.lemmas.Bool.{false≢true}
+use Rattle.std.proofs.lemmas.Option.{none-some}
 use Rattle.tool_frame.specs.declared.no_answer.NoAnswer.{NoAnswer}
 use Rattle.tool_frame.specs.declared.no_answer.NoAnswer.TheVariants.{Read, Write, Memory}
 use Rattle.play_words.specs.declared.status.Status.{Status}
@@ -30,7 +31,7 @@ not_of_tool q w e t = false≢true (sym (ap (λ b. not (b || w)) e) ∙ t)
 pub question_not_of_tool : (words : List (List ℕ)) → ask_question words ≡ true → are_of_tool words ≡ true → ⊥
 question_not_of_tool words q t = not_of_tool (ask_question words) (ask_why words) q t
 
-tail_of : List (List ℕ) → List (List ℕ)
+abbrev tail_of : List (List ℕ) → List (List ℕ)
 tail_of [] = []
 tail_of (word ∷ words) = words
 
@@ -72,3 +73,8 @@ why_rack r e read kept = record { early = early_kept r read kept; other = λ nev
 pub play_rack : {D Kind : Type 0} {kind_of : D → Kind} {before after : List D} {words : List (List ℕ)} {status : Status} → KeepsDevices kind_of (AskForPlay words) status before after →
     KeepsDevices kind_of (MayPlay words) status before after
 play_rack kept = record { early = kept.early; other = λ never. kept.other (λ playing. never (inl playing)); kinds = kept.kinds }
+
+-- no words after a first one are given
+pub none_after : {A : Type 0} {P : Type 0} (o : Option A) → o ≡ None → IfNone o P → P
+none_after None e p = p
+none_after (Some x) e p = absurd (none-some x (sym e))

@@ -1,11 +1,11 @@
 -- On what is said of files.
-use Rattle.std.proofs.Common.{◌≡◌, ◌<◌, ℕ, pos, List, [], ◌∷◌, length, Option, None, Some, Result, Ok, refl, subst, inl}
+use Rattle.std.proofs.Common.{◌≡◌, ◌<◌, ℕ, pos, List, [], ◌∷◌, length, Option, None, Some, Result, Ok, Err, refl, subst, inl}
 use Rattle.std.specs.Prelude.{IsSomeAnd}
 use Rattle.tool_io.specs.declared.lines.Lines.{Lines}
 use Rattle.tool_io.specs.declared.outside.Sink.{Ghosts as SinkOf}
 use Rattle.tool_frame.specs.declared.no_answer.NoAnswer.{NoAnswer}
 use Rattle.tool_io.specs.Causes.{NoneFalls}
-use Rattle.tool_io.specs.Files.{then_names, HasPicked}
+use Rattle.tool_io.specs.Files.{then_names, PicksFront}
 use Rattle.tool_io.specs.declared.outside.Shelf.{Ghosts as ShelfOf}
 use Rattle.tool_io.proofs.PickLemmas.{picks_at_most}
 use Rattle.tool_io.proofs.CauseLemmas.{counts_start}
@@ -102,33 +102,36 @@ long_board u source request held sink old new r (Some text) more says =
     by said ending a = rw (long_board_ends said ending a) (did (board_shown source request text held too_long said (long_board_shown said text more ending a)))
 
 -- Which files were picked.
-module _ {S : Type 0} {shelf : ShelfOf S} {before after : S} where
-  -- one file, or perhaps none after a failure
-  pub files_of_read : {R E : Type 0} {path : List ℕ} (r : Result R E) → HasPicked (shelf.picks before) path (shelf.picks after) r →
-      shelf.told after ≡ shelf.told before → NoneFalls shelf.faults shelf.is_last before after → KeepsFiles shelf (NamesThis path) before after
-  files_of_read {path = path} r once keeps later = record { keeps = keeps; later = later; once = files_picked (Some path ∷ []) refl (picks_at_most [] r once) }
 
-  -- the first of two, or perhaps none after a failure
-  pub files_of_first : {R E : Type 0} {first : List ℕ} (second : List ℕ) (r : Result R E) → HasPicked (shelf.picks before) first (shelf.picks after) r →
-      shelf.told after ≡ shelf.told before → NoneFalls shelf.faults shelf.is_last before after → KeepsFiles shelf (NamesTwo first second) before after
-  files_of_first {first = first} second r once keeps later =
-      record { keeps = keeps; later = later; once = files_picked (Some first ∷ Some second ∷ []) refl (picks_at_most (second ∷ []) r once) }
+-- one file, or perhaps none
+pub files_of_read : {S : Type 0} (shelf : ShelfOf S) (before after : S) (path : List ℕ) → PicksFront (shelf.picks before) (path ∷ []) (shelf.picks after) →
+    shelf.told after ≡ shelf.told before → NoneFalls shelf.faults shelf.is_last before after → KeepsFiles shelf (NamesThis path) before after
+files_of_read shelf before after path once keeps later = record { keeps = keeps; later = later; once = files_picked (Some path ∷ []) refl once }
 
-  -- those that others name
-  pub files_within : {P Q : List (Option (List ℕ)) → Type 0} → ((named : List (Option (List ℕ))) → P named → Q named) → KeepsFiles shelf P before after →
-      KeepsFiles shelf Q before after
-  files_within f kept = record { keeps = kept.keeps; later = kept.later; once = picks_within f kept.once }
+-- the first of two, or perhaps none
+pub files_of_first : {S : Type 0} (shelf : ShelfOf S) (before after : S) (first second : List ℕ) → PicksFront (shelf.picks before) (first ∷ []) (shelf.picks after) →
+    shelf.told after ≡ shelf.told before → NoneFalls shelf.faults shelf.is_last before after → KeepsFiles shelf (NamesTwo first second) before after
+files_of_first shelf before after first second once keeps later =
+    let failed : Result (Unit {0}) (Unit {0}) = Err tt in
+    record { keeps = keeps; later = later; once = files_picked (Some first ∷ Some second ∷ []) refl (picks_at_most (second ∷ []) failed once) }
+
+-- those that others name
+pub files_within : {S : Type 0} {shelf : ShelfOf S} {before after : S} {P Q : List (Option (List ℕ)) → Type 0} → ((named : List (Option (List ℕ))) → P named → Q named) →
+    KeepsFiles shelf P before after → KeepsFiles shelf Q before after
+files_within f kept = record { keeps = kept.keeps; later = kept.later; once = picks_within f kept.once }
 
 -- no file
 pub no_files : {S : Type 0} (shelf : ShelfOf S) (names : List (Option (List ℕ)) → Type 0) (at : S) → KeepsFiles shelf names at at
 no_files shelf names at = record { keeps = refl; later = counts_start _ _; once = nothing_picked refl }
 
 -- the first of two, and then perhaps the second
-pub files_of_both : {S : Type 0} {shelf : ShelfOf S} {before mid after : S} {first second : List ℕ} → shelf.picks mid ≡ then_names (shelf.picks before) (first ∷ []) →
+pub files_of_both : {S : Type 0} (shelf : ShelfOf S) (before mid after : S) (first second : List ℕ) → shelf.picks mid ≡ then_names (shelf.picks before) (first ∷ []) →
     shelf.told mid ≡ shelf.told before → NoneFalls shelf.faults shelf.is_last before mid → KeepsFiles shelf (NamesThis second) mid after →
     KeepsFiles shelf (NamesTwo first second) before after
-files_of_both {shelf = shelf} {mid = mid} {after = after} {second = second} once keeps later kept =
-    let picked : KeepsShelf shelf (NamesThis second) (λ read. read ≡ second) mid after (Ok {E = NoAnswer} tt) =
+files_of_both shelf before mid after first second once keeps later kept =
+    let done : Result (Unit {0}) NoAnswer = Ok tt in
+    let picked : KeepsShelf shelf (NamesThis second) (λ read. read ≡ second) mid after done =
     record { keeps = kept.keeps; later = kept.later; once = kept.once; read = λ failed. absurd cc } in
-    let both = shelf_of_both {reached = λ read. Unit {0}} tt once keeps later picked in
+    let both : KeepsShelf shelf (NamesTwo first second) (λ read. Unit {0}) before after done =
+    shelf_of_both tt once keeps later picked in
     record { keeps = both.keeps; later = both.later; once = both.once }

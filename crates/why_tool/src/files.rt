@@ -32,7 +32,12 @@ fn tell_unread<K: Sink>(alloc: Global, path: &str, lines: &mut Lines<K>) -> Resu
     requires { IsWhole lines.old }
     ensures { Says K.Sink (IsUnreadTold path.now) ⊥ lines.old lines.new result }
 {
-    tell(alloc, Front::Unread(path.as_bytes()), b"9, an exit code:", lines)
+    tell(
+        alloc,
+        Front::Unread(path.as_bytes()),
+        b"9, an exit code:",
+        lines,
+    )
 }
 
 // Says what a play comes to of the program in a file, as a task asks for it.

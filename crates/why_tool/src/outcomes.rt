@@ -97,26 +97,44 @@ fn tell_misfit<K: Sink>(
 }
 
 // Says that the board lacks the place, and how many devices it has.
-fn tell_place<K: Sink>(alloc: Global, devices: &[Desc], lines: &mut Lines<K>) -> Result<Status, NoAnswer>
+fn tell_place<K: Sink>(
+    alloc: Global,
+    devices: &[Desc],
+    lines: &mut Lines<K>,
+) -> Result<Status, NoAnswer>
     requires fits { CanBeFitted devices.now }
     requires whole { IsWhole lines.old }
     ensures { Says K.Sink (IsToldUnder (misfit_line (codes "place")) (codes "place, of the words:") (devices_line devices.now)) ⊥
         lines.old lines.new result }
 {
-    tell(alloc, Front::Misfit(b"place"), b"place, of the words:", lines)?;
+    tell(
+        alloc,
+        Front::Misfit(b"place"),
+        b"place, of the words:",
+        lines,
+    )?;
     put_devices(lines, devices)?;
     Ok(Status::Done(0))
 }
 
 /// Says that the play, or other work, is done with this code.
-pub(crate) fn tell_done<K: Sink>(alloc: Global, code: i32, lines: &mut Lines<K>) -> Result<Status, NoAnswer>
+pub(crate) fn tell_done<K: Sink>(
+    alloc: Global,
+    code: i32,
+    lines: &mut Lines<K>,
+) -> Result<Status, NoAnswer>
     requires { IsWhole lines.old }
     ensures { (known : Known) → Says K.Sink (Tells known (statuses.Done code)) ⊥ lines.old lines.new result }
 {
     if code == 0 {
         return tell(alloc, Front::Nothing, b"0, an exit code:", lines);
     }
-    tell(alloc, Front::Ended(Ending::Exit(code)), b"1, an exit code:", lines)
+    tell(
+        alloc,
+        Front::Ended(Ending::Exit(code)),
+        b"1, an exit code:",
+        lines,
+    )
 }
 
 /// Says what is known of how a play on these devices ended, of this program if it is one.
@@ -138,9 +156,20 @@ pub(crate) fn tell_outcome<K: Sink>(
     match status {
         Status::Done(code) => tell_done(alloc, code, lines),
         Status::Fault(fault, piece) => tell_fault(alloc, fault, piece, program, lines),
-        Status::Spent => tell(alloc, Front::Ended(Ending::Spent), b"spent, in a play:", lines),
+        Status::Spent => tell(
+            alloc,
+            Front::Ended(Ending::Spent),
+            b"spent, in a play:",
+            lines,
+        ),
         Status::NoAction => tell_misfit(alloc, b"action", b"action, of the words:", program, lines),
-        Status::BadChoice => tell_misfit(alloc, b"choice", b"choice, of the words:", program, lines),
+        Status::BadChoice => tell_misfit(
+            alloc,
+            b"choice",
+            b"choice, of the words:",
+            program,
+            lines,
+        ),
         Status::BadPlace => tell_place(alloc, devices, lines),
         _ => unreachable!(),
     }

@@ -68,7 +68,11 @@ pub(crate) fn code_status(
 }
 
 /// How other work on a program ends. The only error is want of memory.
-pub(crate) fn work_status(alloc: Global, work: Work, program: &Program) -> Result<Status, AllocError>
+pub(crate) fn work_status(
+    alloc: Global,
+    work: Work,
+    program: &Program,
+) -> Result<Status, AllocError>
     requires program { IsProgram program.now.text (trees_of program.now) }
     ensures status { IfOk result (HasAnswer (Works work program.now.text (trees_of program.now))) }
 {

@@ -80,7 +80,12 @@ pub(crate) fn tell_text<K: Sink>(
 }
 
 // Says how other work on a program ends.
-fn tell_worked<K: Sink>(alloc: Global, work: Work, program: &Program, lines: &mut Lines<K>) -> Result<Status, NoAnswer>
+fn tell_worked<K: Sink>(
+    alloc: Global,
+    work: Work,
+    program: &Program,
+    lines: &mut Lines<K>,
+) -> Result<Status, NoAnswer>
     requires program { IsProgram program.now.text (trees_of program.now) }
     requires whole { IsWhole lines.old }
     ensures { Says K.Sink (Explains (Works work program.now.text (trees_of program.now))
@@ -93,7 +98,12 @@ fn tell_worked<K: Sink>(alloc: Global, work: Work, program: &Program, lines: &mu
 /// Says what other work comes to of these bytes: where they are refused as a program, or that it is done.
 ///
 /// `Write` as of the sink; `Memory` is want of memory, and then nothing has reached the sink.
-pub(crate) fn tell_work<K: Sink>(alloc: Global, work: Work, text: &[u8], lines: &mut Lines<K>) -> Result<Status, NoAnswer>
+pub(crate) fn tell_work<K: Sink>(
+    alloc: Global,
+    work: Work,
+    text: &[u8],
+    lines: &mut Lines<K>,
+) -> Result<Status, NoAnswer>
     requires { IsWhole lines.old }
     ensures { Says K.Sink (Explains (TextAnswer (Works work text.now) text.now) (known_alone (Some text.now))) ⊥
         lines.old lines.new result }

@@ -18,11 +18,13 @@ fn takes_text(mode: Mode) -> &'static [u8]
     ensures { result.now ≡ takes_text mode }
 {
     match mode {
-        Mode::Play => b"play takes board=PATH program=PATH action=NAME [do=NAME,..] [skip=NAME,..] [place=N..N] [turns=N] [pins=yes|no] [report=yes|no], each once\n",
+        Mode::Play =>
+            b"play takes board=PATH program=PATH action=NAME [do=NAME,..] [skip=NAME,..] [place=N..N] [turns=N] [pins=yes|no] [report=yes|no], each once\n",
         Mode::Check => b"check takes program=PATH, each once\n",
         Mode::List => b"list takes program=PATH, each once\n",
         Mode::Compile => b"compile takes program=PATH, each once\n",
-        Mode::Run => b"run takes board=PATH code=PATH action=NAME [do=NAME,..] [skip=NAME,..] [place=N..N] [turns=N] [pins=yes|no] [report=yes|no], each once\n",
+        Mode::Run =>
+            b"run takes board=PATH code=PATH action=NAME [do=NAME,..] [skip=NAME,..] [place=N..N] [turns=N] [pins=yes|no] [report=yes|no], each once\n",
         Mode::Soak => b"soak takes seed=N, each once\n",
     }
 }
@@ -79,7 +81,11 @@ fn put_word<K: Sink>(lines: &mut Lines<K>, n: u32, word: Option<&str>) -> Result
 /// Says why the words are refused at this one, counted from 1, and what may stand after the first.
 ///
 /// `Write` as of the sink.
-pub(crate) fn tell_words<K: Sink>(words: &[String], n: u32, lines: &mut Lines<K>) -> Result<Status, NoAnswer>
+pub(crate) fn tell_words<K: Sink>(
+    words: &[String],
+    n: u32,
+    lines: &mut Lines<K>,
+) -> Result<Status, NoAnswer>
     requires { IsWhole lines.old }
     ensures { Says K.Sink (IsWordTold n (map string_bytes words.now)) ⊥ lines.old lines.new result }
 {

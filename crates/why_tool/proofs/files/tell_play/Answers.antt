@@ -33,16 +33,16 @@ pub returns-in-Err-Memory-clause-says : goal.returns-in-Err-Memory-clause-says
 returns-in-Err-Memory-clause-says g c = of_any_files (g.S.Shelf.told c.args.shelf.now) (play_files c.args.play.now) (λ contents. (refl, refl))
 
 pub returns-in-Ok-clause-files : goal.returns-in-Ok-clause-files
-returns-in-Ok-clause-files g c = files_of_both (rw c.as_str.ensures at c.in-Ok.ensures.once) c.in-Ok.ensures.keeps c.in-Ok.ensures.later c.tell_on_board.ensures.files
+returns-in-Ok-clause-files g c = files_of_both g.S.Shelf _ _ _ c.args.play.now.board c.args.play.now.source (rw c.as_str.ensures at c.in-Ok.ensures.once) c.in-Ok.ensures.keeps c.in-Ok.ensures.later c.tell_on_board.ensures.files
 
 pub returns-in-Err-TooLong-clause-files : goal.returns-in-Err-TooLong-clause-files
 returns-in-Err-TooLong-clause-files g c =
-    files_of_first c.args.play.now.source c.read_whole.result (rw c.as_str.ensures at c.in-Err-TooLong.ensures.once) c.in-Err-TooLong.ensures.keeps c.in-Err-TooLong.ensures.later
+    files_of_first g.S.Shelf _ _ c.args.play.now.board c.args.play.now.source (rw c.as_str.ensures at c.in-Err-TooLong.ensures.once) c.in-Err-TooLong.ensures.keeps c.in-Err-TooLong.ensures.later
 
 pub returns-in-Err-ReadFault-clause-files : goal.returns-in-Err-ReadFault-clause-files
 returns-in-Err-ReadFault-clause-files g c =
-    files_of_first c.args.play.now.source c.read_whole.result (rw c.as_str.ensures at c.in-Err-ReadFault.ensures.once) c.in-Err-ReadFault.ensures.keeps c.in-Err-ReadFault.ensures.later
+    files_of_first g.S.Shelf _ _ c.args.play.now.board c.args.play.now.source (rw c.as_str.ensures at c.in-Err-ReadFault.ensures.once) c.in-Err-ReadFault.ensures.keeps c.in-Err-ReadFault.ensures.later
 
 pub returns-in-Err-Memory-clause-files : goal.returns-in-Err-Memory-clause-files
 returns-in-Err-Memory-clause-files g c =
-    files_of_first c.args.play.now.source c.read_whole.result (rw c.as_str.ensures at c.in-Err-Memory.ensures.once) c.in-Err-Memory.ensures.keeps c.in-Err-Memory.ensures.later
+    files_of_first g.S.Shelf _ _ c.args.play.now.board c.args.play.now.source (rw c.as_str.ensures at c.in-Err-Memory.ensures.once) c.in-Err-Memory.ensures.keeps c.in-Err-Memory.ensures.later

@@ -1,5 +1,6 @@
-use Rattle.std.proofs.Common.{ap, Err, Some, refl}
+use Rattle.std.proofs.Common.{[], ap, Err, Some, refl}
 use Rattle.stapl_lexer.specs.Pieces.{text_limit}
+use Rattle.tool_io.proofs.PickLemmas.{picks_first}
 use Rattle.tool_frame.proofs.AnswerLemmas.{says_within}
 use Rattle.named_files.proofs.BoardLemmas.{of_whole_file, of_long_file, of_file_as, of_any_file}
 use Rattle.play_tool.specs.Answers.{Works}
@@ -26,13 +27,13 @@ pub returns-in-Err-Memory-clause-says : goal.returns-in-Err-Memory-clause-says
 returns-in-Err-Memory-clause-says g c = of_any_file (g.S.Shelf.told c.args.shelf.now) (Some c.args.path.now) (λ held. (refl, refl))
 
 pub returns-in-Ok-clause-files : goal.returns-in-Ok-clause-files
-returns-in-Ok-clause-files g c = files_of_read c.read_whole.result c.in-Ok.ensures.once c.in-Ok.ensures.keeps c.in-Ok.ensures.later
+returns-in-Ok-clause-files g c = files_of_read g.S.Shelf _ _ c.args.path.now (picks_first [] c.in-Ok.ensures.once) c.in-Ok.ensures.keeps c.in-Ok.ensures.later
 
 pub returns-in-Err-TooLong-clause-files : goal.returns-in-Err-TooLong-clause-files
-returns-in-Err-TooLong-clause-files g c = files_of_read c.read_whole.result c.in-Err-TooLong.ensures.once c.in-Err-TooLong.ensures.keeps c.in-Err-TooLong.ensures.later
+returns-in-Err-TooLong-clause-files g c = files_of_read g.S.Shelf _ _ c.args.path.now c.in-Err-TooLong.ensures.once c.in-Err-TooLong.ensures.keeps c.in-Err-TooLong.ensures.later
 
 pub returns-in-Err-ReadFault-clause-files : goal.returns-in-Err-ReadFault-clause-files
-returns-in-Err-ReadFault-clause-files g c = files_of_read c.read_whole.result c.in-Err-ReadFault.ensures.once c.in-Err-ReadFault.ensures.keeps c.in-Err-ReadFault.ensures.later
+returns-in-Err-ReadFault-clause-files g c = files_of_read g.S.Shelf _ _ c.args.path.now c.in-Err-ReadFault.ensures.once c.in-Err-ReadFault.ensures.keeps c.in-Err-ReadFault.ensures.later
 
 pub returns-in-Err-Memory-clause-files : goal.returns-in-Err-Memory-clause-files
-returns-in-Err-Memory-clause-files g c = files_of_read c.read_whole.result c.in-Err-Memory.ensures.once c.in-Err-Memory.ensures.keeps c.in-Err-Memory.ensures.later
+returns-in-Err-Memory-clause-files g c = files_of_read g.S.Shelf _ _ c.args.path.now c.in-Err-Memory.ensures.once c.in-Err-Memory.ensures.keeps c.in-Err-Memory.ensures.later
