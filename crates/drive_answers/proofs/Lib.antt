@@ -1,2 +1,1 @@
 pub mod DrivenAnswers
-pub mod DrivenPlans

@@ -1,9 +1,0 @@
-pub mod Statuses
-pub mod Words
-pub mod Named
-pub mod Driven
-pub mod Plans
-pub mod Answers
-pub mod Steps
-pub mod PeerPlays
-pub mod Commands
