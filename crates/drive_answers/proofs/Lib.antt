@@ -1,1 +1,2 @@
 pub mod DrivenAnswers
+pub mod DrivenPlans

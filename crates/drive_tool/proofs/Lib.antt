@@ -1,0 +1,10 @@
+pub mod CableLemmas
+pub mod PlayLemmas
+pub mod DriveLemmas
+pub mod AnswerLemmas
+pub mod PlanLemmas
+pub mod WordLemmas
+pub mod WordLaws
+pub mod OnePlan
+pub mod SomePlan
+pub mod TopLemmas

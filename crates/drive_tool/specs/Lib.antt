@@ -1,0 +1,9 @@
+pub mod Statuses
+pub mod Words
+pub mod Named
+pub mod Driven
+pub mod Plans
+pub mod Answers
+pub mod Steps
+pub mod PeerPlays
+pub mod Commands
