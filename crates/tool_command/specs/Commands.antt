@@ -40,15 +40,16 @@ abbrev pub MayPlay : List (List ℕ) → Type 0
 MayPlay words = AskForPlay words ⊎ (ask_why words ≡ true)
 
 -- A prefix of the answer to the words is written, with the contents of their files as they were read; or, if they are a
--- question, of the answer to that; or, if they ask why, of the answer to that, with these files that could not be read.
-pub record HasCommandFront (told : Option (List (List ℕ × List ℕ))) (unread : List ℕ → Type 0) (words : List (List ℕ))
+-- question, of the answer to that; or, if they ask why, of the answer to that, with these files that could not be read of
+-- those that the words after it name.
+pub record HasCommandFront (told : Option (List (List ℕ × List ℕ))) (unread : List (List ℕ) → List ℕ → Type 0) (words : List (List ℕ))
     (before after : Option (List ℕ)) : Type 0 where
   pub of_answer : are_of_tool words ≡ true →
       OfWords told words (λ contents. WroteFront (CommandAnswer (WordsAnswer words (λ request. contents)) words) before after)
   pub of_question : ask_question words ≡ true →
       OfFiles (NamesOne (IsAskedOf words)) told (λ contents. WroteFront (QuestionAnswer (first_of contents) words) before after)
   pub of_why : (rest : List (List ℕ)) → words ≡ codes "--why" ∷ rest →
-      OfWords told rest (λ contents. WroteFront (WhyAnswer unread rest contents) before after)
+      OfWords told rest (λ contents. WroteFront (WhyAnswer (unread rest) rest contents) before after)
 
 -- the status of a run that ended in this way
 abbrev pub status_of : Result Status NoAnswer → Status

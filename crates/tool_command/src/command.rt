@@ -1,15 +1,14 @@
 //! What a command does with its words.
 ghost use Rattle.std.specs.Prelude.{◌≡◌, true, ℕ, List, ◌∷◌, codes, map, string_bytes};
-ghost use Rattle.tool_io.specs.Causes.{HasRisenAt};
 ghost use Rattle.tool_frame.specs.Answers.{Wrote};
 ghost use Rattle.chain_sim.specs.Rack.{IsRack};
 ghost use Rattle.tool_frame.specs.Files.{OfFiles, NamesOne, first_of};
 ghost use Rattle.play_words.specs.Statuses.{IsFault};
 ghost use Rattle.play_tool.specs.Answers.{WordsAnswer};
-ghost use Rattle.play_tool.specs.ReadContents.{OfWords, Answered};
+ghost use Rattle.play_tool.specs.ReadContents.{OfWords, IsReachedBy, Answered};
 ghost use Rattle.play_tool.specs.TopCalls.{HasFailedRead, HasFailedWrite, KeepsOutside, KeepsDevices};
 ghost use Rattle.tool_questions.specs.Questions.{ask_question, QuestionAnswer, IsAskedOf};
-ghost use Rattle.why_tool.specs.Whys.{WhyAnswer};
+ghost use Rattle.why_tool.specs.Whys.{IsUnread, WhyAnswer};
 ghost use Rattle.tool_command.specs.Commands.{CommandAnswer, IsReachedByCommand, NamesByCommand, HasCommandFront};
 ghost use Rattle.tool_command.specs.Commands.{MayPlay, are_of_tool, status_of};
 
@@ -60,10 +59,10 @@ pub fn run_command<S: Shelf, K: Sink>(
         result) }
 
     // The same of words after `--why`: what is said of their command by its answer, or which of its files cannot be
-    // read, of which the count rose.
+    // read. That one is reached: a file of the command that it reads, and its count rose.
     ensures why { (IsFault result → ⊥) → (rest : List (List ℕ)) → map string_bytes words.now ≡ codes "--why" ∷ rest →
         OfWords (S.told shelf.old) rest (λ contents. Wrote
-        (WhyAnswer (λ path. HasRisenAt S.faults S.is_last path shelf.old shelf.new) rest contents)
+        (WhyAnswer (IsUnread S.Shelf (IsReachedBy (S.told shelf.old) rest) shelf.old shelf.new) rest contents)
         (K.written out.old) (K.written out.new) result) }
 
     // A read fault comes only where the count of a file that the words name rose, of the program only if no told board
@@ -74,7 +73,8 @@ pub fn run_command<S: Shelf, K: Sink>(
     // A write fault comes only where the sink's count rose, and then a prefix of the text is written, of the answer or
     // of that to a question.
     ensures write { result ≡ Status.WriteFault → HasFailedWrite K.Sink out.old out.new
-        (HasCommandFront (S.told shelf.old) (λ path. HasRisenAt S.faults S.is_last path shelf.old shelf.new)
+        (HasCommandFront (S.told shelf.old)
+        (λ rest. IsUnread S.Shelf (IsReachedBy (S.told shelf.old) rest) shelf.old shelf.new)
         (map string_bytes words.now) (K.written out.old) (K.written out.new)) }
 
     // After want of memory nothing is written.

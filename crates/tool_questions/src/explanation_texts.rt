@@ -78,6 +78,7 @@ spent, in a play: the turns were used up: the file waits without end, or needs m
 15, an exit code: of trace: a clock differs, trace differs clock i. Do this: see --explain differs.
 16, an exit code: of trace or wave: a line of clocks is bad, R trace n BadLine. Do this: see --explain BadLine, and line n.
 17, an exit code: of quiet: the play is not quiet, not quiet piece p line n turn t and why. Do this: see --explain quiet and --piece p.
+18, an exit code: of drive: the wire could not be opened, a send failed, its answers ended, or one is neither 0 nor 1; what came before may be cut. Do this: look at what answers, and at the order in which both ends open.
 125, an exit code: the program could not be built; nothing is written. Do this: read standard error; it says what is missing.
 TooLarge, of another program: R print TooLarge: the new text would have more than 4,194,304 bytes, or of rewrite more than 100,000 pieces. Do this: divide the program.
 TooLong, of another program: R trace TooLong: the trace has more than 67,108,864 bytes. Do this: play fewer turns with pins=yes.

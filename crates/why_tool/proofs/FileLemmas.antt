@@ -1,11 +1,11 @@
 -- On what is said of files.
-use Rattle.std.proofs.Common.{◌≡◌, ◌<◌, ℕ, pos, List, [], ◌∷◌, length, Option, None, Some, Result, Ok, Err, refl, subst, inl}
-use Rattle.std.specs.Prelude.{IsSomeAnd}
+use Rattle.std.proofs.Common.{◌≡◌, ◌<◌, ℕ, pos, List, [], ◌∷◌, length, Option, None, Some, Result, Ok, Err, refl, sym, subst, inl}
+use Rattle.std.specs.Prelude.{IsSomeAnd, IfSome}
 use Rattle.tool_io.specs.declared.lines.Lines.{Lines}
 use Rattle.tool_io.specs.declared.outside.Sink.{Ghosts as SinkOf}
 use Rattle.tool_frame.specs.declared.no_answer.NoAnswer.{NoAnswer}
-use Rattle.tool_io.specs.Causes.{NoneFalls}
-use Rattle.tool_io.specs.Files.{then_names, PicksFront}
+use Rattle.tool_io.specs.Causes.{HasRisenAt, NoneFalls}
+use Rattle.tool_io.specs.Files.{file_of, then_names, PicksFront}
 use Rattle.tool_io.specs.declared.outside.Shelf.{Ghosts as ShelfOf}
 use Rattle.tool_io.proofs.PickLemmas.{picks_at_most}
 use Rattle.tool_io.proofs.CauseLemmas.{counts_start}
@@ -20,17 +20,19 @@ use Rattle.stapl_syntax.specs.Programs.{is_too_long}
 use Rattle.dev_card.specs.declared.desc.Desc.{Desc}
 use Rattle.board_text.specs.declared.reason.BoardReason.{BoardReason}
 use Rattle.board_text.specs.declared.reason.BoardReason.TheVariants as board_reasons
-use Rattle.board_text.specs.Boards.{most_bytes, IsFirstFault}
+use Rattle.board_text.specs.Boards.{most_bytes, IsBoard, IsFirstFault}
+use Rattle.named_files.specs.Boards.{HasBoard}
 use Rattle.play_words.specs.declared.requests.PlayRequest.{PlayRequest}
 use Rattle.play_words.specs.declared.status.Status.{Status}
 use Rattle.play_words.specs.declared.status.Status.TheVariants.{Done, BoardRefused}
 use Rattle.named_files.specs.Texts.{board_refusal_line}
 use Rattle.play_tool.specs.declared.sources.Source.{Source}
+use Rattle.play_tool.specs.ReadContents.{HoldsBoard}
 use Rattle.play_tool.specs.Answers.{TextAnswer, HeldAnswer, PlayAnswer, board_refused}
 use Rattle.tool_questions.specs.BoardLines as boards
 use Rattle.tool_questions.specs.Pieces as pieces
 use Rattle.why_tool.specs.Told.{Known, Shows}
-use Rattle.why_tool.specs.Whys.{Explains, IsUnreadTold, Reads, cannot, did, known_at, KeepsFiles}
+use Rattle.why_tool.specs.Whys.{Explains, IsUnread, IsUnreadTold, Reads, cannot, did, known_at, KeepsFiles}
 use Rattle.why_tool.proofs.TextLemmas.{refused_shown}
 
 -- more that stands of the bytes that were read, and files that could not be read in a longer time
@@ -45,9 +47,19 @@ reads_within {u = u} {v = v} {A = A} {B = B} later w = record { to = by }
 pub did_say : {u : List ℕ → Type 0} {A : List ℕ → Status → Type 0} → IsWithin A (Reads u A)
 did_say = record { to = λ said ending a. did a }
 
--- that a file cannot be read is said
-pub cannot_say : {u : List ℕ → Type 0} {A : List ℕ → Status → Type 0} (path : List ℕ) → u path → IsWithin (IsUnreadTold path) (Reads u A)
-cannot_say path rose = record { to = λ said ending t. cannot path rose t }
+-- that a file which is reached cannot be read is said
+pub cannot_say : {S : Type 0} {shelf : ShelfOf S} {reached : List ℕ → Type 0} {before after : S} {A : List ℕ → Status → Type 0} (path : List ℕ) →
+    reached path → HasRisenAt shelf.faults shelf.is_last path before after → IsWithin (IsUnreadTold path) (Reads (IsUnread shelf reached before after) A)
+cannot_say path is rose = record { to = λ said ending t. cannot path (record { is_reached = is; rose = rose }) t }
+
+-- the bytes that were read of a board are those that the store holds
+pub holds_board : (told : Option (List (List ℕ × List ℕ))) (path bytes : List ℕ) (devices : List Desc) →
+    IfSome told (λ files. file_of files path ≡ Some bytes) → IsBoard bytes devices → IfSome told (HoldsBoard path)
+holds_board None path bytes devices e is = tt
+holds_board (Some files) path bytes devices e is = record {
+  devices = devices;
+  board = subst (λ (h : Option (List ℕ)). HasBoard h devices) (sym e) is;
+}
 
 -- A text is too long to be a program.
 long_shown : (said : List ℕ) (text : List ℕ) → text_limit < length text → (status : Status) → pieces.IsLongAnswer said status → Shows (pieces.PieceAnswer text 0) said

@@ -3,12 +3,14 @@ use Rattle.std.specs.Prelude.{◌≡◌, ℕ, pos, Bool, true, false, ◌||◌, 
 use Rattle.std.specs.Str.{bytes_eq}
 use Rattle.soak_texts.specs.Boards.{soak_board}
 use Rattle.soak_texts.specs.Soak.{soak_program}
-use Rattle.tool_io.specs.Causes.{NoneFalls}
+use Rattle.tool_io.specs.Causes.{HasRisenAt, NoneFalls}
 use Rattle.tool_io.specs.declared.outside.Shelf.{Ghosts as ShelfOf}
 use Rattle.tool_frame.specs.Files.{first_of, second_of, PicksNamed}
 use Rattle.tool_frame.specs.declared.no_answer.NoAnswer.{NoAnswer}
 use Rattle.play_words.specs.declared.requests.Request.{Request}
 use Rattle.play_words.specs.declared.requests.Request.TheVariants as requests
+use Rattle.dev_card.specs.declared.desc.Desc.{Desc}
+use Rattle.board_text.specs.Boards.{IsBoard}
 use Rattle.play_words.specs.Words.{IsRequest, IsUsage}
 use Rattle.play_words.specs.Statuses.{ComesBeforeFitting}
 use Rattle.play_words.specs.declared.help.TheConstants.{HELP, VERSION}
@@ -39,12 +41,23 @@ pub record Explains (answers : List ℕ → Status → Type 0) (known : Known) (
   pub has : HasAnswer answers status
   pub tells : Tells known status said ending
 
+-- A file is reached, and cannot be read: the count of its name rose, or stands at its last value.
+pub record IsUnread {S : Type 0} (shelf : ShelfOf S) (reached : List ℕ → Type 0) (before after : S) (path : List ℕ) : Type 0 where
+  pub is_reached : reached path
+  pub rose : HasRisenAt shelf.faults shelf.is_last path before after
+
+-- What is played on these bytes is reached, as they are a board.
+pub record IsPlayed (board source path : List ℕ) : Type 0 where
+  pub path_is : path ≡ source
+  pub devices : List Desc
+  pub is_board : IsBoard board devices
+
 -- That the file of this path cannot be read is said.
 pub record IsUnreadTold (path said : List ℕ) (ending : Status) : Type 0 where
   pub said_is : said ≡ unread_text path
   pub done : ending ≡ Done (pos 0)
 
--- The same, or a file that cannot be read is named.
+-- The same, or one of the files that are reached and cannot be read is named.
 pub data Reads (unread : List ℕ → Type 0) (explains : List ℕ → Status → Type 0) (said : List ℕ) (ending : Status) : Type 0 where
   cannot : (path : List ℕ) → unread path → IsUnreadTold path said ending → Reads unread explains said ending
   did : explains said ending → Reads unread explains said ending

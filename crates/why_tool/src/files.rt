@@ -1,6 +1,5 @@
 //! What is said of the files of a command: that one cannot be read, or what the command comes to of their bytes.
 ghost use Rattle.std.specs.Prelude.{◌≡◌, ℕ, List, Some, map};
-ghost use Rattle.tool_io.specs.Causes.{HasRisenAt, NoneFalls};
 ghost use Rattle.tool_io.specs.Lines.{IsWhole};
 ghost use Rattle.tool_frame.specs.Answers.{Says};
 ghost use Rattle.tool_frame.specs.Files.{OfFile, OfFiles, NamesThis, first_of, second_of};
@@ -8,9 +7,9 @@ ghost use Rattle.board_text.specs.Boards.{IsBoard, CanBeFitted};
 ghost use Rattle.chain_sim.specs.Rack.{IsRack};
 ghost use Rattle.play_tool.specs.declared.sources.Source.TheVariants as sources;
 ghost use Rattle.play_tool.specs.Answers.{SourceAnswer, HeldAnswer, PlayAnswer, WorkAnswer};
-ghost use Rattle.play_tool.specs.ReadContents.{ArePlayFiles};
+ghost use Rattle.play_tool.specs.ReadContents.{ArePlayFiles, IsPlayFile};
 ghost use Rattle.why_tool.specs.Told.{known_alone};
-ghost use Rattle.why_tool.specs.Whys.{Explains, IsUnreadTold, Reads, known_at, KeepsFiles};
+ghost use Rattle.why_tool.specs.Whys.{Explains, IsPlayed, IsUnread, IsUnreadTold, Reads, known_at, KeepsFiles};
 
 use crate::texts::{tell_code_fault, tell_code_file, tell_text, tell_work};
 use crate::told::{Front, tell};
@@ -54,7 +53,7 @@ fn tell_program_file<S: Shelf, K: Sink>(
     requires whole { IsWhole lines.old }
     ensures says { (board : List ℕ) → IsBoard board task.now.devices.now →
         OfFile (S.told shelf.old) (Some path.now) (λ held. Says K.Sink
-        (Reads (λ path. HasRisenAt S.faults S.is_last path shelf.old shelf.new)
+        (Reads (IsUnread S.Shelf (λ read. read ≡ path.now) shelf.old shelf.new)
         (Explains (HeldAnswer (SourceAnswer sources.Program task.now.request.now task.now.devices.now) held)
         (known_at sources.Program (Some board) held))) ⊥ lines.old lines.new result) }
     ensures files { KeepsFiles S.Shelf (NamesThis path.now) shelf.old shelf.new }
@@ -82,7 +81,7 @@ fn tell_code_in<S: Shelf, K: Sink>(
     requires whole { IsWhole lines.old }
     ensures says { (board : List ℕ) → IsBoard board task.now.devices.now →
         OfFile (S.told shelf.old) (Some path.now) (λ held. Says K.Sink
-        (Reads (λ path. HasRisenAt S.faults S.is_last path shelf.old shelf.new)
+        (Reads (IsUnread S.Shelf (λ read. read ≡ path.now) shelf.old shelf.new)
         (Explains (HeldAnswer (SourceAnswer sources.Code task.now.request.now task.now.devices.now) held)
         (known_at sources.Code (Some board) held))) ⊥ lines.old lines.new result) }
     ensures files { KeepsFiles S.Shelf (NamesThis path.now) shelf.old shelf.new }
@@ -113,7 +112,7 @@ fn tell_source<S: Shelf, K: Sink>(
     requires whole { IsWhole lines.old }
     ensures says { (board : List ℕ) → IsBoard board task.now.devices.now →
         OfFile (S.told shelf.old) (Some path.now) (λ held. Says K.Sink
-        (Reads (λ path. HasRisenAt S.faults S.is_last path shelf.old shelf.new)
+        (Reads (IsUnread S.Shelf (λ read. read ≡ path.now) shelf.old shelf.new)
         (Explains (HeldAnswer (SourceAnswer source task.now.request.now task.now.devices.now) held)
         (known_at source (Some board) held))) ⊥ lines.old lines.new result) }
     ensures files { KeepsFiles S.Shelf (NamesThis path.now) shelf.old shelf.new }
@@ -139,7 +138,7 @@ fn tell_on_board<S: Shelf, K: Sink>(
     requires rack { IsRack (map kind_of rack.old.items) }
     requires whole { IsWhole lines.old }
     ensures says { OfFile (S.told shelf.old) (Some play.now.source) (λ held. Says K.Sink
-        (Reads (λ path. HasRisenAt S.faults S.is_last path shelf.old shelf.new)
+        (Reads (IsUnread S.Shelf (IsPlayed board.now play.now.source) shelf.old shelf.new)
         (Explains (PlayAnswer source play.now.request (Some board.now) held)
         (known_at source (Some board.now) held))) ⊥ lines.old lines.new result) }
     ensures files { KeepsFiles S.Shelf (NamesThis play.now.source) shelf.old shelf.new }
@@ -184,7 +183,7 @@ pub(crate) fn tell_play<S: Shelf, K: Sink>(
     requires rack { IsRack (map kind_of rack.old.items) }
     requires whole { IsWhole lines.old }
     ensures says { OfFiles (ArePlayFiles play.now) (S.told shelf.old) (λ contents. Says K.Sink
-        (Reads (λ path. HasRisenAt S.faults S.is_last path shelf.old shelf.new)
+        (Reads (IsUnread S.Shelf (IsPlayFile (S.told shelf.old) play.now) shelf.old shelf.new)
         (Explains (PlayAnswer source play.now.request (first_of contents) (second_of contents))
         (known_at source (first_of contents) (second_of contents)))) ⊥ lines.old lines.new result) }
     ensures files { KeepsFiles S.Shelf (ArePlayFiles play.now) shelf.old shelf.new }
@@ -210,7 +209,7 @@ pub(crate) fn tell_work_on<S: Shelf, K: Sink>(
 ) -> Result<Status, NoAnswer>
     requires { IsWhole lines.old }
     ensures says { OfFile (S.told shelf.old) (Some path.now) (λ held. Says K.Sink
-        (Reads (λ path. HasRisenAt S.faults S.is_last path shelf.old shelf.new)
+        (Reads (IsUnread S.Shelf (λ read. read ≡ path.now) shelf.old shelf.new)
         (Explains (WorkAnswer work held) (known_alone held))) ⊥ lines.old lines.new result) }
     ensures files { KeepsFiles S.Shelf (NamesThis path.now) shelf.old shelf.new }
 {

@@ -11,5 +11,4 @@ mod told;
 mod whys;
 mod words;
 
-pub use whys::{run_why, why};
-pub use words::ask_why;
+pub use whys::run_why;

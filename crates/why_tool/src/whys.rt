@@ -1,14 +1,13 @@
 //! The answer to `--why` and the words of a command.
 ghost use Rattle.std.specs.Prelude.{◌≡◌, map, string_bytes, IsErrOf};
-ghost use Rattle.tool_io.specs.Causes.{HasRisenAt};
 ghost use Rattle.tool_io.specs.Lines.{IsWhole};
 ghost use Rattle.tool_frame.specs.Answers.{Says, HasWritten};
 ghost use Rattle.tool_frame.specs.Files.{OfFiles};
 ghost use Rattle.tool_frame.specs.Frame.{KeepsCount};
 ghost use Rattle.chain_sim.specs.Rack.{IsRack};
 ghost use Rattle.play_tool.specs.Answers.{RequestAnswer};
-ghost use Rattle.play_tool.specs.ReadContents.{AreFilesOf, NamesFiles, OfWords};
-ghost use Rattle.why_tool.specs.Whys.{Explains, Reads, known_of, KeepsFiles, KeepsKinds, CommandTold, WhyAnswer};
+ghost use Rattle.play_tool.specs.ReadContents.{AreFilesOf, IsReached, IsReachedBy, NamesFiles, OfWords};
+ghost use Rattle.why_tool.specs.Whys.{Explains, IsUnread, Reads, known_of, KeepsFiles, KeepsKinds, CommandTold, WhyAnswer};
 
 use crate::files::{tell_play, tell_work_on};
 use crate::soaking::tell_soak;
@@ -32,7 +31,7 @@ fn tell_request<S: Shelf, K: Sink>(
     requires rack { IsRack (map kind_of rack.old.items) }
     requires whole { IsWhole lines.old }
     ensures says { OfFiles (AreFilesOf request.now) (S.told shelf.old) (λ contents. Says K.Sink
-        (Reads (λ path. HasRisenAt S.faults S.is_last path shelf.old shelf.new)
+        (Reads (IsUnread S.Shelf (IsReached (S.told shelf.old) request.now) shelf.old shelf.new)
         (Explains (RequestAnswer request.now contents) (known_of request.now contents))) ⊥ lines.old lines.new result) }
     ensures files { KeepsFiles S.Shelf (AreFilesOf request.now) shelf.old shelf.new }
     ensures kinds { map kind_of rack.new.items ≡ map kind_of rack.old.items }
@@ -58,8 +57,8 @@ fn tell_command<S: Shelf, K: Sink>(
     requires rack { IsRack (map kind_of rack.old.items) }
     requires whole { IsWhole lines.old }
     ensures says { OfWords (S.told shelf.old) (map string_bytes words.now) (λ contents. Says K.Sink
-        (CommandTold (λ path. HasRisenAt S.faults S.is_last path shelf.old shelf.new) (map string_bytes words.now) contents)
-        ⊥ lines.old lines.new result) }
+        (CommandTold (IsUnread S.Shelf (IsReachedBy (S.told shelf.old) (map string_bytes words.now)) shelf.old shelf.new)
+        (map string_bytes words.now) contents) ⊥ lines.old lines.new result) }
     ensures files { KeepsFiles S.Shelf (NamesFiles (map string_bytes words.now)) shelf.old shelf.new }
     ensures kinds { map kind_of rack.new.items ≡ map kind_of rack.old.items }
 {
@@ -70,12 +69,8 @@ fn tell_command<S: Shelf, K: Sink>(
     }
 }
 
-/// Says why the command of these words does not do what was asked, and what to do; or that it does it. A play is played
-/// with the devices of the rack, and its lines go nowhere. Words that are a question, or ask for a text, are refused.
-///
-/// `Write` as of the sink; `Memory` is want of memory, and then nothing has reached the sink. A file that cannot be
-/// read is no fault here, but an answer: the count of its name rose, or stands at its last value.
-pub fn why<S: Shelf, K: Sink>(
+// Says why the command of these words does not do what was asked, and what to do; or that it does it.
+fn why<S: Shelf, K: Sink>(
     alloc: Global,
     words: &[String],
     shelf: &mut S,
@@ -85,8 +80,8 @@ pub fn why<S: Shelf, K: Sink>(
     requires rack { IsRack (map kind_of rack.old.items) }
     requires whole { IsWhole lines.old }
     ensures says { OfWords (S.told shelf.old) (map string_bytes words.now) (λ contents. Says K.Sink
-        (WhyAnswer (λ path. HasRisenAt S.faults S.is_last path shelf.old shelf.new) (map string_bytes words.now) contents)
-        ⊥ lines.old lines.new result) }
+        (WhyAnswer (IsUnread S.Shelf (IsReachedBy (S.told shelf.old) (map string_bytes words.now)) shelf.old shelf.new)
+        (map string_bytes words.now) contents) ⊥ lines.old lines.new result) }
     ensures files { KeepsFiles S.Shelf (NamesFiles (map string_bytes words.now)) shelf.old shelf.new }
     ensures rack { KeepsKinds kind_of rack.old.items rack.new.items result }
 {
@@ -96,9 +91,12 @@ pub fn why<S: Shelf, K: Sink>(
     tell_command(alloc, words, shelf, rack, lines)
 }
 
-/// Writes the answer of `why`: its text and nothing else.
+/// Writes why the command of these words does not do what was asked, and what to do; or that it does it. A play is played
+/// with the devices of the rack, and its lines go nowhere. Words that are a question, or ask for a text, are refused.
 ///
-/// `Write` and `Memory` as `why`, and no `Read`: at `Write` a prefix of the text is written, at `Memory` nothing.
+/// `Write` as of the sink, and then a prefix of the text is written; `Memory` is want of memory, and then nothing is. It
+/// is never `Read`: that a file cannot be read is an answer. Such a file is one that the command reads, and the count of
+/// its name rose, or stands at its last value.
 pub fn run_why<S: Shelf, K: Sink>(
     alloc: Global,
     words: &[String],
@@ -108,8 +106,8 @@ pub fn run_why<S: Shelf, K: Sink>(
 ) -> Result<Status, NoAnswer>
     requires { IsRack (map kind_of rack.old.items) }
     ensures ran { OfWords (S.told shelf.old) (map string_bytes words.now) (λ contents. HasWritten
-        (WhyAnswer (λ path. HasRisenAt S.faults S.is_last path shelf.old shelf.new) (map string_bytes words.now) contents)
-        (K.written out.old) (K.written out.new) result) }
+        (WhyAnswer (IsUnread S.Shelf (IsReachedBy (S.told shelf.old) (map string_bytes words.now)) shelf.old shelf.new)
+        (map string_bytes words.now) contents) (K.written out.old) (K.written out.new) result) }
     ensures no_read { IsErrOf result NoAnswer.Read → ⊥ }
     ensures sink { KeepsCount K.Sink out.old out.new result }
     ensures files { KeepsFiles S.Shelf (NamesFiles (map string_bytes words.now)) shelf.old shelf.new }

@@ -96,8 +96,8 @@ pub(crate) fn tell_words<K: Sink>(
     Ok(Status::Done(0))
 }
 
-/// Whether the words ask why: the first is `--why`.
-pub fn ask_why(words: &[String]) -> bool
+// Whether the words ask why: the first is `--why`.
+fn ask_why(words: &[String]) -> bool
     ensures { result ≡ ask_why (map string_bytes words.now) }
 {
     match words {

@@ -20,7 +20,7 @@ returns-in-Err-TooLong-clause-says g c = λ board is.
 pub returns-in-Err-ReadFault-clause-says : goal.returns-in-Err-ReadFault-clause-says
 returns-in-Err-ReadFault-clause-says g c = λ board is.
     of_any_file (g.S.Shelf.told c.args.shelf.now) (Some c.args.path.now) (λ held.
-    says_within _ _ _ _ _ c.tell_unread.result (cannot_say c.args.path.now (c.in-Err-ReadFault.ensures.fault (ap Err c.in-Err-ReadFault.field-0-is))) (λ none. none) c.tell_unread.ensures)
+    says_within _ _ _ _ _ c.tell_unread.result (cannot_say c.args.path.now refl (c.in-Err-ReadFault.ensures.fault (ap Err c.in-Err-ReadFault.field-0-is))) (λ none. none) c.tell_unread.ensures)
 
 pub returns-in-Err-Memory-clause-says : goal.returns-in-Err-Memory-clause-says
 returns-in-Err-Memory-clause-says g c = λ board is. of_any_file (g.S.Shelf.told c.args.shelf.now) (Some c.args.path.now) (λ held. (refl, refl))

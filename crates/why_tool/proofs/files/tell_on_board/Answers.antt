@@ -10,7 +10,11 @@ use Rattle.why_tool.proofs.files.tell_on_board.Goals as goal
 pub returns-in-Ok-clause-says : goal.returns-in-Ok-clause-says
 returns-in-Ok-clause-says g c =
     of_file_as (λ held says. says_within _ _ _ _ _ c.tell_source.result
-    (reads_within (λ path rose. rose) (explains_within (board_of_devices {held = Some c.args.board.now} c.in-Ok.devices.items c.in-Ok.ensures.board))) (λ none. none) says)
+    (reads_within (λ path u. record {
+      is_reached = record { path_is = u.is_reached; devices = c.in-Ok.devices.items; is_board = c.in-Ok.ensures.board };
+      rose = u.rose;
+    }) (explains_within (board_of_devices {held = Some c.args.board.now} c.in-Ok.devices.items c.in-Ok.ensures.board)))
+    (λ none. none) says)
     (rw (c.as_str.ensures, c.deref.ensures.value) at c.tell_source.ensures.says c.args.board.now c.in-Ok.ensures.board)
 
 pub returns-in_err-show_line-in-Err-At-clause-says : goal.returns-in_err-show_line-in-Err-At-clause-says

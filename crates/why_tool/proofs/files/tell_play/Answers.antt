@@ -4,8 +4,9 @@ use Rattle.board_text.specs.Boards.{most_bytes}
 use Rattle.tool_frame.proofs.AnswerLemmas.{says_within}
 use Rattle.named_files.proofs.BoardLemmas.{of_long_file}
 use Rattle.play_words.specs.Words.{play_files}
+use Rattle.play_tool.specs.ReadContents.{board_reached, source_reached}
 use Rattle.play_tool.proofs.RequestLemmas.{of_any_files, of_board, of_both}
-use Rattle.why_tool.proofs.FileLemmas.{files_of_first, files_of_both, reads_within, cannot_say, long_board}
+use Rattle.why_tool.proofs.FileLemmas.{files_of_first, files_of_both, reads_within, cannot_say, holds_board, long_board}
 use Rattle.why_tool.proofs.files.tell_play.Goals as goal
 
 pub returns-in-Ok-clause-says : goal.returns-in-Ok-clause-says
@@ -13,7 +14,12 @@ returns-in-Ok-clause-says g c =
     of_both (g.S.Shelf.told c.args.shelf.now) c.args.play.now (Some c.in-Ok.board.items) (record { same = rw c.as_str.ensures at c.in-Ok.ensures.whole })
     (rw (c.deref.ensures.value, c.in-Ok.ensures.keeps) at c.tell_on_board.ensures.says)
     (λ source says. says_within _ _ _ _ _ c.tell_on_board.result
-    (reads_within (λ path rose. rose_after_at c.in-Ok.ensures.later rose) (record { to = λ said ending a. a })) (λ none. none) says)
+    (reads_within (λ path u. record {
+      is_reached = source_reached u.is_reached.path_is
+          (holds_board _ c.args.play.now.board c.in-Ok.board.items u.is_reached.devices
+          (rw c.as_str.ensures at c.in-Ok.ensures.whole) u.is_reached.is_board);
+      rose = rose_after_at c.in-Ok.ensures.later u.rose;
+    }) (record { to = λ said ending a. a })) (λ none. none) says)
 
 pub returns-in-Err-TooLong-clause-says : goal.returns-in-Err-TooLong-clause-says
 returns-in-Err-TooLong-clause-says g c =
@@ -26,7 +32,7 @@ pub returns-in-Err-ReadFault-clause-says : goal.returns-in-Err-ReadFault-clause-
 returns-in-Err-ReadFault-clause-says g c =
     of_any_files (g.S.Shelf.told c.args.shelf.now) (play_files c.args.play.now) (λ contents.
     says_within _ _ _ _ _ c.tell_unread.result
-    (cannot_say c.args.play.now.board (rw c.as_str.ensures at c.in-Err-ReadFault.ensures.fault (ap Err c.in-Err-ReadFault.field-0-is))) (λ none. none)
+    (cannot_say c.args.play.now.board (board_reached refl) (rw c.as_str.ensures at c.in-Err-ReadFault.ensures.fault (ap Err c.in-Err-ReadFault.field-0-is))) (λ none. none)
     (rw c.as_str-in-Err-ReadFault.ensures at c.tell_unread.ensures))
 
 pub returns-in-Err-Memory-clause-says : goal.returns-in-Err-Memory-clause-says

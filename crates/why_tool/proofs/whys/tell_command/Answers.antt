@@ -4,13 +4,19 @@ use Rattle.play_words.specs.Words.{IsUsage, IsWordsRefused}
 use Rattle.play_words.proofs.OneRequest.{no_usage}
 use Rattle.play_tool.proofs.RequestLemmas.{of_request, of_no_request, of_any_words, usage_is}
 use Rattle.why_tool.specs.Whys.{word_refused, asked}
-use Rattle.why_tool.proofs.FileLemmas.{files_within, no_files}
+use Rattle.why_tool.proofs.FileLemmas.{files_within, no_files, reads_within}
 use Rattle.why_tool.proofs.whys.tell_command.Goals as goal
 
 pub returns-in-Ok-clause-says : goal.returns-in-Ok-clause-says
 returns-in-Ok-clause-says g c =
     of_request (g.S.Shelf.told c.args.shelf.now) c.in-Ok.ensures.request c.tell_request.ensures.says (λ contents says.
-    says_within _ _ _ _ _ c.tell_request.result (record { to = λ said ending a. asked c.in-Ok.request c.in-Ok.ensures.request a }) (λ none. none) says)
+    says_within _ _ _ _ _ c.tell_request.result (record {
+      to = λ said ending a. asked c.in-Ok.request c.in-Ok.ensures.request
+          ((reads_within (λ path u. record {
+            is_reached = record { request = c.in-Ok.request; asked = c.in-Ok.ensures.request; reached = u.is_reached };
+            rose = u.rose;
+          }) (record { to = λ said ending a. a })).to said ending a);
+    }) (λ none. none) says)
 
 pub returns-in-Err-Usage-clause-says : goal.returns-in-Err-Usage-clause-says
 returns-in-Err-Usage-clause-says g c =
