@@ -1,0 +1,6 @@
+mod Alone
+mod Endings
+mod Good
+mod Points
+mod Needed
+mod Asked
