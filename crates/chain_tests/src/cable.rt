@@ -1,8 +1,9 @@
 //! Tests of moves, stays and the reset over a cable that fails.
-ghost use Rattle.std.specs.Prelude.{◌≡◌, ◌++◌, ◌^◌, ◌-◌, not, None, IfOk};
+ghost use Rattle.std.specs.Prelude.{◌≡◌, ◌++◌, ◌^◌, ◌-◌, not, None, IfOk, IsTrue};
 ghost use Rattle.std.proofs.lemmas.Option.{none-some};
 ghost use Rattle.tap_states.specs.declared.Tap.TheVariants.{Reset};
 ghost use Rattle.tap_states.specs.Path.{five_ones};
+ghost use Rattle.tap_states.specs.Tap.{is_stable_state};
 ghost use Rattle.dev_card.specs.Clocks.{with_zero, move_inputs};
 ghost use Rattle.scan_paths.specs.Cables.{whole, whole_if};
 ghost use Rattle.scan_paths.specs.CableCalls.{MakesClocks};
@@ -105,10 +106,12 @@ fn moved(failing: u32) -> (Option<Tap>, u32) {
     (state.ok(), cable.clocks)
 }
 
-// The same of five clocks in a state, and whether they are made.
-fn stayed(failing: u32) -> (bool, u32) {
+// The same of so many clocks in a state, and whether they are made.
+fn stayed(failing: u32, at: Tap, n: u32) -> (bool, u32)
+    requires { IsTrue (is_stable_state at) }
+{
     let mut cable = SilentCable::new(failing);
-    let stayed = stay(&mut cable, Tap::IrPause, 5);
+    let stayed = stay(&mut cable, at, n);
     (stayed.is_ok(), cable.clocks)
 }
 
@@ -130,9 +133,17 @@ fn stops_at_the_clock_that_fails(rt: HostRuntime) {
             None
         };
         assert!(rt; moved(failing) == (state, failing.min(6)));
-        assert!(rt; stayed(failing) == (failing > 5, failing.min(5)));
+        assert!(rt; stayed(failing, Tap::Reset, 5) == (failing > 5, failing.min(5)));
         assert!(rt; restarted(failing) == (failing > 6, failing.min(6)));
     }
+}
+
+// A stay of 10,000 clocks outside reset takes a call for each 64 of them, and one for the rest.
+#[test]
+fn stays_by_blocks(rt: HostRuntime) {
+    assert!(rt; stayed(0, Tap::IrPause, 10_000) == (true, 157));
+    assert!(rt; stayed(157, Tap::Idle, 10_000) == (false, 157));
+    assert!(rt; stayed(0, Tap::DrPause, 0) == (true, 0));
 }
 
 // No paddings of a program.

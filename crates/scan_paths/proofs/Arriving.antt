@@ -1,19 +1,22 @@
 -- The inputs of moves and stays, clock by clock, and the states to which they and five ones lead.
-use Rattle.std.proofs.Common.{◌≡◌, ◌<◌, ◌≤◌, ◌+◌, ◌-◌, ◌/◌, ◌%◌, ℕ, suc, zero, nat_eq, Bool, true, false, List, [], ◌∷◌, replicate, Option, Some, None, refl, sym, ap, subst, ◌∙◌, arith}
+use Rattle.std.proofs.Common.{◌≡◌, ◌<◌, ◌≤◌, ◌+◌, ◌-◌, ◌/◌, ◌%◌, ℕ, suc, zero, nat_eq, Bool, true, false, List, [], ◌∷◌, ◌++◌, replicate, Option, Some, None, refl, sym, ap, subst, ◌∙◌, arith}
 use Rattle.std.specs.Option.{option_map}
 use Rattle.base.specs.Bits.{low_bits}
+use Rattle.base.proofs.NumberBits.{low_bits_of_zero}
 use Rattle.tap_states.specs.declared.Tap.{Tap}
 use Rattle.tap_states.specs.declared.Tap.TheVariants.{Reset}
 use Rattle.tap_states.specs.Tap.{next_of, is_stable_state}
 use Rattle.tap_states.specs.Path.{walk, five_ones}
 use Rattle.dev_card.specs.Card.{Card}
-use Rattle.dev_card.specs.Board.{board_after, AllIn}
-use Rattle.dev_card.specs.Clocks.{with_zero, rest_tms, move_inputs}
+use Rattle.dev_card.specs.Board.{Input, board_after, AllIn}
+use Rattle.dev_card.specs.Blocks.{block_inputs}
+use Rattle.dev_card.specs.Clocks.{with_zero, rest_tms, move_inputs, part_inputs}
 use Rattle.dev_card.proofs.Reaching.{walk_in, rests}
 use Rattle.dev_card.proofs.Resetting.{five_ones_reset}
 use Rattle.dev_card.proofs.ScanLines.{move_leads}
 use Rattle.scan_paths.specs.Cables.{WhereTold}
 use Rattle.std.proofs.lemmas.Option.{same_Some}
+use Rattle.std.proofs.lemmas.List.{map-append, replicate-append-replicate}
 
 pub minus_zero : (n : ℕ) → n ≡ n - 0
 minus_zero n = omega arith
@@ -33,9 +36,27 @@ next_bit n k rest h = let e : n - k ≡ suc (n - (k + 1)) = omega arith in ap (�
 pub no_bits : (n k rest : ℕ) → n ≤ k → with_zero (low_bits (n - k) rest) ≡ []
 no_bits n k rest h = let e : n - k ≡ 0 = omega arith in ap (λ m. with_zero (low_bits m rest)) e
 
+abbrev zero_input : Bool → Input
+zero_input m = record { tms = m; tdi = false }
+
+still_same : (n : ℕ) → part_inputs false (replicate n false) ≡ with_zero (replicate n false)
+still_same zero = refl
+still_same (suc n) = ap (λ z. record { tms = false; tdi = false } ∷ z) (still_same n)
+
+-- a block of the same TMS values, with 1 only at one clock
+block_same : (len : ℕ) (b : Bool) → 1 ≤ len → (b ≡ true → len ≤ 1) → block_inputs 0 len b ≡ with_zero (replicate len b)
+block_same len true some one = let e : len ≡ 1 = omega (arith, some, one refl) in rw e refl
+block_same len false some one = ap (part_inputs false) (low_bits_of_zero len) ∙ still_same len
+
 -- the next of the same TMS values, and the rest
-pub next_same : (n k : ℕ) (b : Bool) → k < n → with_zero (replicate (n - k) b) ≡ record { tms = b; tdi = false } ∷ with_zero (replicate (n - (k + 1)) b)
-next_same n k b h = let e : n - k ≡ suc (n - (k + 1)) = omega arith in ap (λ m. with_zero (replicate m b)) e
+pub next_same : (n at len : ℕ) (b : Bool) → 1 ≤ len → (b ≡ true → len ≤ 1) → at + len ≤ n →
+    with_zero (replicate (n - at) b) ≡ block_inputs 0 len b ++ with_zero (replicate (n - (at + len)) b)
+next_same n at len b some one h =
+    let e : n - at ≡ len + (n - (at + len)) = omega (arith, h) in
+    ap (λ k. with_zero (replicate k b)) e
+    ∙ ap with_zero (sym (replicate-append-replicate len (n - (at + len)) b))
+    ∙ map-append zero_input (replicate len b) (replicate (n - (at + len)) b)
+    ∙ ap (λ z. z ++ with_zero (replicate (n - (at + len)) b)) (sym (block_same len b some one))
 
 pub none_same : (n k : ℕ) (b : Bool) → n ≤ k → with_zero (replicate (n - k) b) ≡ []
 none_same n k b h = let e : n - k ≡ 0 = omega arith in ap (λ m. with_zero (replicate m b)) e

@@ -1,5 +1,5 @@
 //! Moves, stays and the reset of the controllers.
-ghost use Rattle.std.specs.Prelude.{◌≡◌, IsTrue, IfOk, OnOk};
+ghost use Rattle.std.specs.Prelude.{◌≡◌, ◌≤◌, true, IsTrue, IfOk, OnOk};
 ghost use Rattle.base.specs.Bits.{low_bits};
 ghost use Rattle.tap_states.specs.declared.Tap.TheVariants.{Reset};
 ghost use Rattle.tap_states.specs.Path.{five_ones};
@@ -10,6 +10,7 @@ ghost use Rattle.scan_paths.specs.Cables.{whole, WhereTold};
 ghost use Rattle.scan_paths.specs.CableCalls.{KeepsCable, MakesClocks};
 
 use crate::cable::Cable;
+use crate::shifts::BLOCK;
 use tap_states::Tap;
 use tool_io::Failed;
 
@@ -77,8 +78,12 @@ pub fn stay<C: Cable>(cable: &mut C, at: Tap, n: u32) -> Result<(), Failed>
     ensures kept { KeepsCable C.Cable cable.old cable.new result }
 {
     let tms = tms_at_rest(at);
-    for _turn in 0..n {
-        cable.clock(tms, false)?;
+    let most = longest_stay(tms);
+    let mut done = 0;
+    while done < n {
+        let len = (n - done).min(most);
+        cable.shift_block(0, len, tms)?;
+        done += len;
     }
     Ok(())
 }
@@ -88,4 +93,13 @@ fn tms_at_rest(at: Tap) -> bool
     ensures { result ≡ rest_tms at }
 {
     matches!(at, Tap::Reset)
+}
+
+// The most clocks of a stay that are one block, with this TMS. A block has TMS 1 at its last clock alone.
+fn longest_stay(tms: bool) -> u32
+    ensures some { 1 ≤ result }
+    ensures most { result ≤ 64 }
+    ensures alone { tms ≡ true → result ≡ 1 }
+{
+    if tms { 1 } else { BLOCK }
 }

@@ -12,8 +12,8 @@ use crate::scans::ScanPlan;
 use bit_list::Bits;
 use tool_io::Failed;
 
-// How many bits go in at one call of the cable.
-const BLOCK: u32 = 64;
+/// The most clocks of one call of the cable.
+pub const BLOCK: u32 = 64;
 
 /// Shifts all bits of a scan, with TMS 1 at the last one alone, and captures TDO at the places of its data.
 pub fn shift_padded<C: Cable>(
