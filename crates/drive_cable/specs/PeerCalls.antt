@@ -1,5 +1,5 @@
 -- What calls over a peer do. All ghost members of the peer are one argument, `P.Peer`.
-use Rattle.std.specs.Prelude.{◌≡◌, ℕ, Bool, List, [], ◌∷◌, map, Result, Ok, Err}
+use Rattle.std.specs.Prelude.{◌≡◌, ℕ, Bool, List, [], ◌∷◌, map, length, Result, Ok, Err}
 use Rattle.base.specs.Bits.{number_of}
 use Rattle.dev_card.specs.Board.{Input, Clock, tdos}
 use Rattle.scan_paths.specs.Cables.{input_of}
@@ -22,6 +22,18 @@ HasCarried peer old bytes answers new (Err e) = BrokeOff peer old bytes new
 abbrev pub HasClocked : {P E : Type 0} → PeerOf P → P → Input → P → Result Bool E → Type 0
 HasClocked peer old i new (Ok tdo) = PeerCarried peer.sent peer.left old (bytes_of_input i) (digit_of tdo ∷ []) new
 HasClocked peer old i new (Err e) = BrokeOff peer old (bytes_of_input i) new
+
+-- all bytes were sent and so many bits were received, of which this is the number
+pub record NumberCarried {P : Type 0} (peer : PeerOf P) (old : P) (bytes : List ℕ) (n number : ℕ) (new : P) : Type 0 where
+  pub answered : List Bool
+  pub count : length answered ≡ n
+  pub number_is : number ≡ number_of answered
+  pub carried : PeerCarried peer.sent peer.left old bytes (digits_of answered) new
+
+-- the same by the result
+abbrev pub HasAskedNumber : {P E : Type 0} → PeerOf P → P → List ℕ → ℕ → P → Result ℕ E → Type 0
+HasAskedNumber peer old bytes n new (Ok number) = NumberCarried peer old bytes n number new
+HasAskedNumber peer old bytes n new (Err e) = BrokeOff peer old bytes new
 
 -- clocks with exactly these inputs, and the number of their TDO bits
 pub record BlockCarried {P : Type 0} (peer : PeerOf P) (old : P) (inputs : List Input) (tdo : ℕ) (new : P) : Type 0 where

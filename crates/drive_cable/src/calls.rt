@@ -1,11 +1,12 @@
 //! Bytes to a peer and answers from it, until all are through.
 ghost use Rattle.std.specs.Prelude.{◌≡◌, ◌*◌, ◌≤◌, ◌<◌, ◌^◌, ◌==◌, [], length, replicate, true};
 ghost use Rattle.tool_io.specs.Causes.{HasCause};
-ghost use Rattle.base.specs.Bits.{number_of};
+ghost use Rattle.base.specs.Bits.{low_bits, number_of};
 ghost use Rattle.dev_card.specs.Blocks.{block_inputs};
+ghost use Rattle.dev_card.specs.Clocks.{with_zero};
 ghost use Rattle.link_server.specs.Clients.{bytes_of_inputs, bytes_of_wait};
 ghost use Rattle.drive_cable.specs.Peers.{digits_of};
-ghost use Rattle.drive_cable.specs.PeerCalls.{HasCarried, HasClocked, HasClockedBlock};
+ghost use Rattle.drive_cable.specs.PeerCalls.{HasCarried, HasClocked, HasAskedNumber, HasClockedBlock};
 
 use crate::peer::Peer;
 use link_server::{clock_bytes, is_last, with_bit};
@@ -91,6 +92,18 @@ fn number_in(bits: &[bool]) -> u64
     with_bit(rest, bits[0], bits.len() as u32 - 1)
 }
 
+// Sends all of the bytes at once, and then receives n bits: their number, the first of them the lowest.
+fn ask_number<P: Peer>(peer: &mut P, bytes: &[u8], n: u32) -> Result<u64, Failed>
+    requires { n ≤ 64 }
+    ensures asked { HasAskedNumber P.Peer peer.old bytes.now n peer.new result }
+    ensures cause { HasCause P.faults P.is_last peer.old peer.new result }
+{
+    let mut bits = [false; MOST_CLOCKS];
+    let count = n as usize;
+    ask(peer, bytes, &mut bits[..count])?;
+    Ok(number_in(&bits[..count]))
+}
+
 // A block of n clocks over a peer: the bytes of all are sent, and then their answers are received.
 pub(crate) fn shift_peer<P: Peer>(peer: &mut P, tdi: u64, n: u32, last: bool) -> Result<u64, Failed>
     requires { n ≤ 64 }
@@ -98,11 +111,34 @@ pub(crate) fn shift_peer<P: Peer>(peer: &mut P, tdi: u64, n: u32, last: bool) ->
     ensures cause { HasCause P.faults P.is_last peer.old peer.new result }
 {
     let mut bytes = [0u8; MOST_BYTES];
-    let count = n as usize;
-    put_clocks(&mut bytes[..3 * count], tdi, n, last);
-    let mut bits = [false; MOST_CLOCKS];
-    ask(peer, &bytes[..3 * count], &mut bits[..count])?;
-    Ok(number_in(&bits[..count]))
+    let count = 3 * n as usize;
+    put_clocks(&mut bytes[..count], tdi, n, last);
+    ask_number(peer, &bytes[..count], n)
+}
+
+// Puts the bytes of n clocks, with the lowest bits of a number as TMS, and with TDI 0.
+fn put_moves(into: &mut [u8], tms: u64, n: u32)
+    requires { length into.old ≡ 3 * n }
+    ensures { into.new ≡ bytes_of_inputs (with_zero (low_bits n tms)) }
+{
+    if n == 0 {
+        return;
+    }
+    let bytes = clock_bytes(tms % 2 == 1, false);
+    into[..3].copy_from_slice(&bytes);
+    put_moves(&mut into[3..], tms / 2, n - 1);
+}
+
+// The same as `shift_peer`, with the lowest bits of a number as TMS, and with TDI 0.
+pub(crate) fn move_peer<P: Peer>(peer: &mut P, tms: u64, n: u32) -> Result<u64, Failed>
+    requires { n ≤ 64 }
+    ensures moved { HasClockedBlock P.Peer peer.old (with_zero (low_bits n tms)) peer.new result }
+    ensures cause { HasCause P.faults P.is_last peer.old peer.new result }
+{
+    let mut bytes = [0u8; MOST_BYTES];
+    let count = 3 * n as usize;
+    put_moves(&mut bytes[..count], tms, n);
+    ask_number(peer, &bytes[..count], n)
 }
 
 // Sends a byte so many times.

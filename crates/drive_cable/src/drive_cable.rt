@@ -2,7 +2,7 @@
 ghost use Rattle.std.specs.Prelude.{◌≡◌};
 ghost use Rattle.scan_paths.specs.Cables.{whole};
 
-use crate::calls::{clock_peer, shift_peer, wait_peer};
+use crate::calls::{clock_peer, move_peer, shift_peer, wait_peer};
 use crate::peer::Peer;
 use scan_paths::Cable;
 use tool_io::Failed;
@@ -65,6 +65,13 @@ impl<P: Peer> Cable for DriveCable<'_, P> {
     fn shift_block(&mut self, tdi: u64, n: u32, last: bool) -> Result<u64, Failed> {
         self.is_broken = true;
         let tdo = shift_peer(self.peer, tdi, n, last)?;
+        self.is_broken = false;
+        Ok(tdo)
+    }
+
+    fn move_block(&mut self, tms: u64, n: u32) -> Result<u64, Failed> {
+        self.is_broken = true;
+        let tdo = move_peer(self.peer, tms, n)?;
         self.is_broken = false;
         Ok(tdo)
     }

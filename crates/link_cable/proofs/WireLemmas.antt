@@ -7,7 +7,7 @@ use Rattle.std.proofs.lemmas.Bool.{false≢true}
 use Rattle.std.proofs.lemmas.List.{append-nil, length-take-le, length-drop}
 use Rattle.std.proofs.lemmas.Option.{none-some, same_Some}
 use Rattle.base.specs.Bits.{low_bits, bit_value}
-use Rattle.dev_card.specs.Clocks.{is_nil}
+use Rattle.dev_card.specs.Clocks.{is_nil, with_zero}
 use Rattle.dev_card.specs.Blocks.{block_inputs}
 use Rattle.dev_card.proofs.ScanLines.{after_none}
 use Rattle.dev_card.specs.Card.{Card}
@@ -225,6 +225,9 @@ none_shifted told carried none w tdi last = record { clocks = []; over = no_cloc
 abbrev first_input : (last : Bool) (m tdi : ℕ) → Input
 first_input last m tdi = record { tms = last && is_nil (low_bits m (tdi / 2)); tdi = nat_eq (tdi % 2) 1 }
 
+abbrev first_move : ℕ → Input
+first_move tms = record { tms = nat_eq (tms % 2) 1; tdi = false }
+
 -- one clock, and the clocks of the rest
 joined : (o mid new : Option WireState) (i : Input) (is : List Input) (bit : Bool) (clocks : List Clock) → IsClockedOver o i.tms i.tdi bit mid →
     IsShiftedOver mid is clocks new → IsShiftedOver o (i ∷ is) (clock_with i bit ∷ clocks) new
@@ -296,3 +299,25 @@ module _ {W : Type 0} (told : W → Option WireState) (carried : Carrying W) (bo
       subst (λ n. HasBrokenAmong carried a (bytes_of_inputs (block_inputs tdi n last)) c) (sym e)
       (broken_on (first_input last m tdi) (block_inputs (tdi / 2) m last) bit
       (subst (λ tms. HasClocked told carried a tms (nat_eq (tdi % 2) 1) bit b) (t ∙ last_of n m (tdi / 2) last e) k) h)
+
+  -- the same of a move
+  pub move_and_rest : (tms n m rest : ℕ) (bit : Bool) (value : ℕ) → n ≡ suc m → HasClocked told carried a (nat_eq (tms % 2) 1) false bit b →
+      HasShiftedOver told carried b (with_zero (low_bits m (tms / 2))) rest c → value ≡ bit_value bit + 2 * rest →
+      HasShiftedOver told carried a (with_zero (low_bits n tms)) value c
+  move_and_rest tms n m rest bit value e k h v =
+      subst (λ v. HasShiftedOver told carried a (with_zero (low_bits n tms)) v c) (sym v)
+      (subst (λ n. HasShiftedOver told carried a (with_zero (low_bits n tms)) (bit_value bit + 2 * rest) c) (sym e)
+      (shifted_on (first_move tms) (with_zero (low_bits m (tms / 2))) bit rest k h))
+
+  pub first_move_failed : (tms n m : ℕ) → n ≡ suc m → HasBrokenAmong carried a (bytes_of_clock (nat_eq (tms % 2) 1) false) b →
+      HasBrokenAmong carried a (bytes_of_inputs (with_zero (low_bits n tms))) b
+  first_move_failed tms n m e h =
+      subst (λ n. HasBrokenAmong carried a (bytes_of_inputs (with_zero (low_bits n tms))) b) (sym e)
+      (broken_first (first_move tms) (with_zero (low_bits m (tms / 2))) h)
+
+  pub rest_move_failed : (tms n m : ℕ) (bit : Bool) → n ≡ suc m → HasClocked told carried a (nat_eq (tms % 2) 1) false bit b →
+      HasBrokenAmong carried b (bytes_of_inputs (with_zero (low_bits m (tms / 2)))) c →
+      HasBrokenAmong carried a (bytes_of_inputs (with_zero (low_bits n tms))) c
+  rest_move_failed tms n m bit e k h =
+      subst (λ n. HasBrokenAmong carried a (bytes_of_inputs (with_zero (low_bits n tms))) c) (sym e)
+      (broken_on (first_move tms) (with_zero (low_bits m (tms / 2))) bit k h)

@@ -1,6 +1,8 @@
 //! Bytes to a wire and answers from it, until all are through.
 ghost use Rattle.std.specs.Prelude.{◌≡◌, ◌≢◌, ◌<◌, ◌≤◌, ◌^◌, ◌==◌, Bool, true, length, IfSome, IfNone, IfOk, IsOk, OnOk};
+ghost use Rattle.base.specs.Bits.{low_bits};
 ghost use Rattle.dev_card.specs.Blocks.{block_inputs};
+ghost use Rattle.dev_card.specs.Clocks.{with_zero};
 ghost use Rattle.link_server.specs.Runs.{digit_of};
 ghost use Rattle.link_cable.specs.Wires.{told_sent, AllCarried, HasRoom, AnswerWaits, HasGiven, OneCarried, ClockOver, ShiftOver, IsGoodWire};
 ghost use Rattle.link_cable.specs.WireCalls.{KeepsWire};
@@ -106,5 +108,28 @@ pub(crate) fn shift_wire<W: Wire>(
     }
     let bit = clock_wire(wire, is_last(last, n), tdi % 2 == 1, faults)?;
     let rest = shift_wire(wire, tdi / 2, n - 1, last, faults)?;
+    Ok(with_bit(rest, bit, n - 1))
+}
+
+// The same as `shift_wire`, with the lowest bits of a number as TMS, and with TDI 0.
+pub(crate) fn move_wire<W: Wire>(
+    wire: &mut W,
+    tms: u64,
+    n: u32,
+    faults: &mut u64,
+) -> Result<u64, Failed>
+    requires ready { W.is_ready wire.old ≡ true }
+    requires most { n ≤ 64 }
+    ensures moved { ShiftOver W.told W.carried wire.old (with_zero (low_bits n tms)) result wire.new }
+    ensures small { IfOk result (λ tdo. tdo < 2 ^ n) }
+    ensures good { IsGoodWire (W.told wire.old) (W.is_steady wire.old) →
+        IsOk result × IsGoodWire (W.told wire.new) (W.is_steady wire.new) }
+    ensures kept { KeepsWire W.Wire wire.old faults.old wire.new faults.new result }
+{
+    if n == 0 {
+        return Ok(0);
+    }
+    let bit = clock_wire(wire, tms % 2 == 1, false, faults)?;
+    let rest = move_wire(wire, tms / 2, n - 1, faults)?;
     Ok(with_bit(rest, bit, n - 1))
 }

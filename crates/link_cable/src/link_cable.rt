@@ -1,10 +1,12 @@
 //! A cable over a wire to a link.
 ghost use Rattle.std.specs.Prelude.{◌≡◌, ◌≤◌, true};
+ghost use Rattle.base.specs.Bits.{low_bits};
 ghost use Rattle.dev_card.specs.Blocks.{block_inputs};
+ghost use Rattle.dev_card.specs.Clocks.{with_zero};
 ghost use Rattle.scan_paths.specs.Cables.{whole, Waits, Tunes, ClockAnswer, BlockAnswer, SignalAnswer};
 ghost use Rattle.link_cable.specs.LinkCables.{through_sound};
 
-use crate::calls::{clock_wire, shift_wire};
+use crate::calls::{clock_wire, move_wire, shift_wire};
 use crate::wire::Wire;
 use scan_paths::Cable;
 use tool_io::Failed;
@@ -84,6 +86,21 @@ impl<W: Wire> Cable for LinkCable<'_, W> {
     {
         self.is_broken = true;
         let tdo = shift_wire(self.wire, tdi, n, last, &mut self.faults)?;
+        self.is_broken = false;
+        Ok(tdo)
+    }
+
+    /// A block as n clocks. It never fails where a clock does not.
+    fn move_block(&mut self, tms: u64, n: u32) -> Result<u64, Failed>
+        requires whole { cable_breakage W.is_ready self.old ≡ whole }
+        requires some { 1 ≤ n }
+        requires most { n ≤ 64 }
+        ensures moved { BlockAnswer (cable_board W.told) (LeadsOver W.Wire) self.old self.new (with_zero (low_bits n tms)) result }
+        ensures kept { KeepsLinkCable W.Wire self.old self.new result }
+        ensures well { GoesWell W.Wire self.old self.new result }
+    {
+        self.is_broken = true;
+        let tdo = move_wire(self.wire, tms, n, &mut self.faults)?;
         self.is_broken = false;
         Ok(tdo)
     }

@@ -3,7 +3,8 @@ use Rattle.std.proofs.Common.{◌≡◌, ◌==◌, ◌&&◌, ℕ, zero, suc, Boo
 use Rattle.std.proofs.lemmas.Bool.Decides.{nat_tests}
 use Rattle.base.specs.Bits.{low_bits}
 use Rattle.base.proofs.NumberBits.{length-low_bits}
-use Rattle.dev_card.specs.Clocks.{is_nil}
+use Rattle.std.proofs.lemmas.List.{length-map}
+use Rattle.dev_card.specs.Clocks.{is_nil, with_zero}
 use Rattle.dev_card.specs.Blocks.{block_inputs}
 use Rattle.scan_paths.proofs.Shifting.{length_of_inputs}
 
@@ -20,3 +21,7 @@ last_of n m x last e = ap (λ k. last && (k == 1)) e ∙ ap (λ t. last && t) (n
 
 pub length_of_block : (tdi n : ℕ) (last : Bool) → length (block_inputs tdi n last) ≡ n
 length_of_block tdi n last = length_of_inputs last (low_bits n tdi) ∙ length-low_bits n tdi
+
+-- and of a move
+pub length_of_moves : (tms n : ℕ) → length (with_zero (low_bits n tms)) ≡ n
+length_of_moves tms n = length-map (low_bits n tms) (λ m. record { tms = m; tdi = false }) ∙ length-low_bits n tms

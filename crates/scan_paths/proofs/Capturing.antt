@@ -1,15 +1,16 @@
 -- What scans capture, clock by clock and call by call.
-use Rattle.std.proofs.Common.{◌≡◌, ◌+◌, ℕ, Bool, List, [], ◌++◌, length, Option, refl, sym, ap, subst, ◌∙◌, append_assoc, arith}
+use Rattle.std.proofs.Common.{◌≡◌, ◌<◌, ◌+◌, ◌*◌, ◌^◌, ℕ, Bool, true, false, List, [], ◌∷◌, ◌++◌, length, Option, refl, sym, ap, subst, ◌∙◌, append_assoc, arith}
+use Rattle.std.proofs.Math.Nat.{mod-eq_of_lt}
 use Rattle.std.proofs.lemmas.List.{append-nil, length-append, length-map}
 use Rattle.dev_card.specs.Card.{Card}
-use Rattle.base.specs.Bits.{low_bits, number_of}
-use Rattle.base.proofs.NumberBits.{length-low_bits, low_bits-number_of}
-use Rattle.dev_card.specs.Board.{Clock, Input, tdos}
+use Rattle.base.specs.Bits.{low_bits, number_of, bit_value}
+use Rattle.base.proofs.NumberBits.{length-low_bits, low_bits-number_of, number_of-low_bits, low_bits_joined}
+use Rattle.dev_card.specs.Board.{Clock, Input, clock_with, tdos}
 use Rattle.dev_card.specs.Blocks.{block_inputs}
 use Rattle.dev_card.proofs.Scanning.{tdos_of_both}
-use Rattle.scan_paths.specs.Cables.{Signal, input_of, HasMadeClocks, HasMade, HasMadeFront, HasShifted}
+use Rattle.scan_paths.specs.Cables.{Signal, input_of, IsClocked, HasMadeClocks, HasMade, HasMadeFront, HasShifted}
 use Rattle.scan_paths.specs.Scans.{HasSeen}
-use Rattle.scan_paths.proofs.CallsInARow.{clocks_both}
+use Rattle.scan_paths.proofs.CallsInARow.{clocks_both, clocks_one}
 use Rattle.scan_paths.proofs.Way.{way_block_failed}
 use Rattle.scan_paths.proofs.Shifting.{length_of_inputs}
 
@@ -39,6 +40,15 @@ module _ {C : Type 0} (board : C → Option (List Card)) (makes : C → List Sig
     at_place = refl;
   }
 
+  -- the bits of all clocks, as a number
+  pub shifted_of_seen : (start now : C) (all : List Input) (n seen : ℕ) → seen < 2 ^ n → IsSeen board makes start now [] all (low_bits n seen) →
+      HasShifted board makes start now all seen
+  shifted_of_seen start now all n seen below s = record {
+    clocks = s.clocks;
+    made = subst (λ z. HasMadeClocks board makes start now z s.clocks) (sym (s.parts ∙ append-nil s.front)) s.made;
+    bits = sym (number_of-low_bits n seen ∙ mod-eq_of_lt below) ∙ ap number_of s.bits;
+  }
+
   -- if nobody asks for the bits
   pub made_of_seen : (a b : C) (xs : List Input) (place : ℕ) (bits : List Bool) → HasSeen board makes a b xs place bits → HasMade board makes a b xs
   made_of_seen a b xs place bits p = record { clocks = p.clocks; made = p.made }
@@ -66,6 +76,20 @@ module _ {C : Type 0} (board : C → Option (List Card)) (makes : C → List Sig
           parts = s.parts ∙ sym (append_assoc s.front is rest);
           made = clocks_both board makes both start now next s.front is s.clocks k.clocks s.made k.made;
           bits = ap (λ z. z ++ low_bits n tdo) s.bits ∙ ap (λ z. tdos s.clocks ++ z) bits ∙ sym (tdos_of_both s.clocks k.clocks);
+        }
+
+    -- one clock more
+    pub seen_clock : (start now next : C) (i : Input) (rest all : List Input) (captured : List Bool) (tdo : Bool) →
+        IsClocked board makes now next i.tms i.tdi tdo → IsSeen board makes start now (i ∷ rest) all captured →
+        IsSeen board makes start next rest all (captured ++ tdo ∷ [])
+    seen_clock start now next i rest all captured tdo k s =
+        let one : List Clock = clock_with i tdo ∷ [] in
+        record {
+          front = s.front ++ i ∷ [];
+          clocks = s.clocks ++ one;
+          parts = s.parts ∙ sym (append_assoc s.front (i ∷ []) rest);
+          made = clocks_both board makes both start now next s.front (i ∷ []) s.clocks one s.made (clocks_one board makes now next i tdo k);
+          bits = ap (λ z. z ++ tdo ∷ []) s.bits ∙ sym (tdos_of_both s.clocks one);
         }
 
     -- a block that failed after some of the inputs
@@ -99,3 +123,13 @@ module _ {C : Type 0} (board : C → Option (List Card)) (makes : C → List Sig
           ∙ append_assoc p.front (bits ++ p.back) (tdos q.clocks) ∙ ap (λ z. p.front ++ z) (append_assoc bits p.back (tdos q.clocks));
       at_place = p.at_place;
     }
+
+-- a number of i bits with one bit above them
+one_bit : (b : Bool) → low_bits 1 (bit_value b) ≡ b ∷ []
+one_bit true = refl
+one_bit false = refl
+
+pub bit_above : (i seen value : ℕ) (b : Bool) → seen < 2 ^ i → value ≡ seen + bit_value b * 2 ^ i → low_bits i seen ++ b ∷ [] ≡ low_bits (i + 1) value
+bit_above i seen value b below e =
+    ap (λ z. low_bits i seen ++ z) (sym (one_bit b)) ∙ sym (low_bits_joined i 1 seen (bit_value b) below)
+    ∙ ap (low_bits (i + 1)) (omega (arith, e))

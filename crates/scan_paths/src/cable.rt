@@ -1,8 +1,10 @@
 //! The cable to a chain of devices.
-ghost use Rattle.std.specs.Prelude.{◌≡◌, ◌≤◌, ℕ, List, [], ◌++◌, Option, Some};
+ghost use Rattle.std.specs.Prelude.{◌≡◌, ◌≤◌, ◌<◌, ◌+◌, ◌*◌, ◌^◌, ℕ, List, [], ◌++◌, Option, Some};
+ghost use Rattle.base.specs.Bits.{low_bits, bit_value};
 ghost use Rattle.dev_card.specs.Card.{Card};
 ghost use Rattle.dev_card.specs.Sound.{AllSound};
 ghost use Rattle.dev_card.specs.Blocks.{block_inputs};
+ghost use Rattle.dev_card.specs.Clocks.{with_zero};
 ghost use Rattle.scan_paths.specs.Cables.{Breakage, whole, Signal, Waits, Tunes, ClockAnswer, BlockAnswer, SignalAnswer, IsCableKept};
 
 use tool_io::Failed;
@@ -58,6 +60,28 @@ pub trait Cable {
         ensures shifted { BlockAnswer board made self.old self.new (block_inputs tdi n last) result }
         ensures kept { IsCableKept line_faults is_line_last pin_faults is_pin_last breakage self.old self.new result };
 
+    /// n clocks as one call: with the lowest n bits of `tms`, the lowest first, and with TDI 0. It answers as
+    /// `shift_block` does.
+    ///
+    /// `Failed` has the cause that it has at `clock`. Then the clocks that were made are the first of these, perhaps
+    /// none, perhaps all.
+    fn move_block(&mut self, tms: u64, n: u32) -> Result<u64, Failed>
+        requires whole { breakage self.old ≡ whole }
+        requires some { 1 ≤ n }
+        requires most { n ≤ 64 }
+        ensures moved { BlockAnswer board made self.old self.new (with_zero (low_bits n tms)) result }
+        ensures kept { IsCableKept line_faults is_line_last pin_faults is_pin_last breakage self.old self.new result }
+    {
+        let mut rest = tms;
+        let mut seen = 0;
+        for i in 0..n {
+            let tdo = self.clock(rest % 2 == 1, false)?;
+            seen = with_bit(seen, i, tdo);
+            rest /= 2;
+        }
+        Ok(seen)
+    }
+
     /// Waits for n microseconds, once and without a clock: a told board stays as it is, whatever the answer. `Failed`
     /// has the cause that it has at `clock`, and then the wait was made or not.
     fn usec(&mut self, n: u32) -> Result<(), Failed>
@@ -82,4 +106,15 @@ pub trait Cable {
     /// Signals that lead on, joined.
     ghost both_made: { (a b c : Self) (front back : List Signal) → made a front b → made b back c →
         made a (front ++ back) c };
+}
+
+// A number of i bits with this bit above them.
+fn with_bit(number: u64, i: u32, bit: bool) -> u64
+    requires place { i < 64 }
+    requires below { number < 2 ^ i }
+    ensures value { result ≡ number + bit_value bit * 2 ^ i }
+    ensures below { result < 2 ^ (i + 1) }
+{
+    let top = if bit { 1u64 << i } else { 0 };
+    number + top
 }

@@ -14,16 +14,15 @@ use crate::shifts::BLOCK;
 use tap_states::Tap;
 use tool_io::Failed;
 
-/// Clocks the lowest n bits as TMS, the lowest first, with TDI 0.
+/// Clocks the lowest n bits as TMS, the lowest first, with TDI 0, as one call of the cable, or as none if n is 0.
 pub fn send<C: Cable>(cable: &mut C, bits: u32, n: u32) -> Result<(), Failed>
-    requires { C.breakage cable.old ≡ whole }
+    requires whole { C.breakage cable.old ≡ whole }
+    requires most { n ≤ 64 }
     ensures made { MakesClocks C.Cable cable.old (with_zero (low_bits n bits)) cable.new result }
     ensures kept { KeepsCable C.Cable cable.old cable.new result }
 {
-    let mut rest = bits;
-    for _turn in 0..n {
-        cable.clock(rest % 2 == 1, false)?;
-        rest /= 2;
+    if n > 0 {
+        cable.move_block(bits as u64, n)?;
     }
     Ok(())
 }

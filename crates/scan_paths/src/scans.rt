@@ -82,7 +82,8 @@ pub fn scan<C: Cable>(
 // The TMS values from a stable state to the shift, the first one in the lowest bit, and how many they are.
 fn entry(at: Tap, ir: bool) -> (u32, u32)
     requires { IsTrue (is_stable_state at) }
-    ensures { low_bits result.1 result.0 ≡ entry_tms at ir }
+    ensures bits { low_bits result.1 result.0 ≡ entry_tms at ir }
+    ensures few { result.1 ≤ 64 }
 {
     match (at, ir) {
         (Tap::Reset, false) => (0b0010, 4),

@@ -8,18 +8,17 @@ use Rattle.std.proofs.lemmas.List.{append-nil, length-append, length-map, length
 use Rattle.std.proofs.Math.Pow.{pow_mono}
 use Rattle.std.proofs.lemmas.Nat.Bits.{bit_at_lowest, bit_at-suc, bit_at-pow_same, bit_at-pow_other}
 use Rattle.base.specs.Bits.{low_bits, number_of, bit_value}
-use Rattle.base.proofs.NumberBits.{length-low_bits, low_bits-number_of, bit_value-odd}
+use Rattle.base.proofs.NumberBits.{low_bits-number_of, bit_value-odd}
 use Rattle.bit_lanes.specs.Pins.{digit_at}
 use Rattle.dev_card.specs.Card.{Card}
 use Rattle.dev_card.specs.Board.{Clock, Input, tdos, board_after}
-use Rattle.dev_card.specs.Clocks.{is_nil, clocks_with}
+use Rattle.dev_card.specs.Clocks.{is_nil, clocks_with, with_zero}
 use Rattle.dev_card.specs.Blocks.{block_inputs}
 use Rattle.scan_paths.specs.Cables.{Signal, pulsed, Breakage, whole, input_of, IsClockedOrNot, HasBrokenOff, HasMadeFront, HasShifted}
-use Rattle.scan_paths.proofs.Shifting.{length_of_inputs}
 use Rattle.stapl_meaning.specs.Deeds.{pulses}
 use Rattle.stapl_meaning.specs.Texts.{pin_limit, pin_line, full_line, with_digit, bytes_of, waiting}
 use Rattle.written_cable.specs.declared.pin_cable.PinCable.{PinCable}
-use Rattle.written_cable.specs.Blocks.{block_clocks, clock_digits, lines_of_digits, with_digits}
+use Rattle.written_cable.specs.Blocks.{word_inputs, word_clocks, clock_digits, lines_of_digits, with_digits}
 use Rattle.written_cable.specs.Resets.{digit_of_clock}
 use Rattle.written_cable.specs.Papers.{Shown, Puts, PutsFront, IsOverSame}
 use Rattle.written_cable.specs.PaperLaws.{puts_nothing}
@@ -32,15 +31,52 @@ own_clocks : (ks : List Clock) → clocks_with (map input_of ks) (tdos ks) ≡ k
 own_clocks [] = refl
 own_clocks (k ∷ ks) = ap (λ z. k ∷ z) (own_clocks ks)
 
-pub block_known : (ks : List Clock) (tdi tdo n : ℕ) (last : Bool) → map input_of ks ≡ block_inputs tdi n last →
-    tdo ≡ number_of (tdos ks) → block_clocks tdi tdo n last ≡ ks
-block_known ks tdi tdo n last e f =
-    let count : length (tdos ks) ≡ n = length-map ks (λ (k : Clock). k.tdo) ∙ sym (length-map ks input_of) ∙ ap length e
-    ∙ length_of_inputs last (low_bits n tdi) ∙ length-low_bits n tdi in
+block_known : (ks : List Clock) (is : List Input) (tdo n : ℕ) → map input_of ks ≡ is → length is ≡ n → tdo ≡ number_of (tdos ks) →
+    clocks_with is (low_bits n tdo) ≡ ks
+block_known ks is tdo n e len f =
+    let count : length (tdos ks) ≡ n = length-map ks (λ (k : Clock). k.tdo) ∙ sym (length-map ks input_of) ∙ ap length e ∙ len in
     let bits : low_bits n tdo ≡ tdos ks = ap (low_bits n) f ∙ ap (λ m. low_bits m (number_of (tdos ks))) (sym count) ∙ low_bits-number_of (tdos ks) in
-    ap (clocks_with (block_inputs tdi n last)) bits ∙ ap (λ is. clocks_with is (tdos ks)) (sym e) ∙ own_clocks ks
+    ap (clocks_with is) bits ∙ ap (λ is. clocks_with is (tdos ks)) (sym e) ∙ own_clocks ks
+
+count_of_words : (tms tdi n : ℕ) → length (word_inputs tms tdi n) ≡ n
+count_of_words tms tdi zero = refl
+count_of_words tms tdi (suc n) = ap suc (count_of_words (tms / 2) (tdi / 2) n)
+
+words_known : (ks : List Clock) (is : List Input) (tms tdi tdo n : ℕ) → word_inputs tms tdi n ≡ is → map input_of ks ≡ is →
+    tdo ≡ number_of (tdos ks) → word_clocks tms tdi tdo n ≡ ks
+words_known ks is tms tdi tdo n w e f =
+    ap (λ is. clocks_with is (low_bits n tdo)) w ∙ block_known ks is tdo n e (ap length (sym w) ∙ count_of_words tms tdi n) f
 
 -- ---- the digits of a block
+
+lowest_bit : (z : ℕ) → bit_value (nat_eq (z % 2) 1) ≡ bit_at z 0
+lowest_bit z = bit_value-odd (z % 2) (omega arith) ∙ sym (bit_at_lowest z)
+
+digit_of_word : (n i t x y : ℕ) → i < n →
+    get_or (clock_digits (word_clocks t x y n)) i 0 ≡ 48 + (4 * bit_at t i + (2 * bit_at x i + bit_at y i))
+digit_of_word zero i t x y h = absurd (omega (arith, h))
+digit_of_word (suc n) zero t x y h =
+    ap (λ z. 48 + (4 * z + (2 * bit_value (nat_eq (x % 2) 1) + bit_value (nat_eq (y % 2) 1)))) (lowest_bit t)
+    ∙ ap₂ (λ u v. 48 + (4 * bit_at t 0 + (2 * u + v))) (lowest_bit x) (lowest_bit y)
+digit_of_word (suc n) (suc i) t x y h =
+    digit_of_word n i (t / 2) (x / 2) (y / 2) (omega (arith, h))
+    ∙ ap (λ z. 48 + (4 * z + (2 * bit_at (x / 2) i + bit_at (y / 2) i))) (sym (bit_at-suc t i))
+    ∙ ap₂ (λ u v. 48 + (4 * bit_at t (suc i) + (2 * u + v))) (sym (bit_at-suc x i)) (sym (bit_at-suc y i))
+
+count_of_digits : (n t x y : ℕ) → length (clock_digits (word_clocks t x y n)) ≡ n
+count_of_digits zero t x y = refl
+count_of_digits (suc n) t x y = ap suc (count_of_digits n (t / 2) (x / 2) (y / 2))
+
+line_of_words : (n tms x y : ℕ) (line : List ℕ) → n ≤ length line →
+    ((i : ℕ) → i < n → slice_index line i ≡ digit_at tms x y i) → take n line ≡ clock_digits (word_clocks tms x y n)
+line_of_words n tms x y line room is =
+    let count : length (take n line) ≡ n = length-take-le n line room in
+    let one : (i : ℕ) → i < length (take n line) → get_or (take n line) i 0 ≡ get_or (clock_digits (word_clocks tms x y n)) i 0 =
+    λ i h. let below : i < n = omega (arith, h, count) in
+    get_or-take n line i 0 below ∙ is i below ∙ sym (digit_of_word n i tms x y below) in
+    ext_get_or 0 (take n line) (clock_digits (word_clocks tms x y n)) (count ∙ sym (count_of_digits n tms x y)) one
+
+-- ---- the inputs of a block, and of a move
 
 last_of_first : (n x : ℕ) → is_nil (low_bits n x) ≡ nat_eq 1 (suc n)
 last_of_first zero x = refl
@@ -49,31 +85,24 @@ last_of_first (suc n) x = grind (arith, nat_tests)
 later : (n i : ℕ) → nat_eq (suc i + 1) (suc n) ≡ nat_eq (i + 1) n
 later n i = grind (arith, nat_tests)
 
-digit_of_block : (last : Bool) (n i x y t : ℕ) → i < n → t ≡ bit_value (last && nat_eq (i + 1) n) →
-    get_or (clock_digits (block_clocks x y n last)) i 0 ≡ 48 + (4 * t + (2 * bit_at x i + bit_at y i))
-digit_of_block last zero i x y t h e = absurd (omega (arith, h))
-digit_of_block last (suc n) zero x y t h e =
-    let mode : bit_value (last && is_nil (low_bits n (x / 2))) ≡ t = ap (λ b. bit_value (last && b)) (last_of_first n (x / 2)) ∙ sym e in
-    let lowest : (z : ℕ) → bit_value (nat_eq (z % 2) 1) ≡ bit_at z 0 = λ z. bit_value-odd (z % 2) (omega arith) ∙ sym (bit_at_lowest z) in
-    ap (λ z. 48 + (4 * z + (2 * bit_value (nat_eq (x % 2) 1) + bit_value (nat_eq (y % 2) 1)))) mode
-    ∙ ap₂ (λ u v. 48 + (4 * t + (2 * u + v))) (lowest x) (lowest y)
-digit_of_block last (suc n) (suc i) x y t h e =
-    digit_of_block last n i (x / 2) (y / 2) t (omega (arith, h)) (e ∙ ap (λ b. bit_value (last && b)) (later n i))
-    ∙ ap₂ (λ u v. 48 + (4 * t + (2 * u + v))) (sym (bit_at-suc x i)) (sym (bit_at-suc y i))
+value_is : (b : Bool) → nat_eq (bit_value b) 1 ≡ b
+value_is true = refl
+value_is false = refl
 
-count_of_digits : (last : Bool) (n x y : ℕ) → length (clock_digits (block_clocks x y n last)) ≡ n
-count_of_digits last zero x y = refl
-count_of_digits last (suc n) x y = ap suc (count_of_digits last n (x / 2) (y / 2))
+pub words_of_block : (n tms x : ℕ) (last : Bool) → ((i : ℕ) → i < n → bit_at tms i ≡ bit_value (last && nat_eq (i + 1) n)) →
+    word_inputs tms x n ≡ block_inputs x n last
+words_of_block zero tms x last mode = refl
+words_of_block (suc n) tms x last mode =
+    let first : nat_eq (tms % 2) 1 ≡ last && is_nil (low_bits n (x / 2)) =
+    ap (λ z. nat_eq z 1) (sym (bit_at_lowest tms) ∙ mode 0 (omega arith)) ∙ value_is (last && nat_eq 1 (suc n))
+    ∙ ap (λ b. last && b) (sym (last_of_first n (x / 2))) in
+    let rest : word_inputs (tms / 2) (x / 2) n ≡ block_inputs (x / 2) n last =
+    words_of_block n (tms / 2) (x / 2) last (λ i h. sym (bit_at-suc tms i) ∙ mode (suc i) (omega (arith, h)) ∙ ap (λ b. bit_value (last && b)) (later n i)) in
+    ap₂ (λ t is. record { tms = t; tdi = nat_eq (x % 2) 1 } ∷ is) first rest
 
-line_of_block : (last : Bool) (n tms x y : ℕ) (line : List ℕ) → n ≤ length line →
-    ((i : ℕ) → i < n → bit_at tms i ≡ bit_value (last && nat_eq (i + 1) n)) →
-    ((i : ℕ) → i < n → slice_index line i ≡ digit_at tms x y i) → take n line ≡ clock_digits (block_clocks x y n last)
-line_of_block last n tms x y line room mode is =
-    let count : length (take n line) ≡ n = length-take-le n line room in
-    let one : (i : ℕ) → i < length (take n line) → get_or (take n line) i 0 ≡ get_or (clock_digits (block_clocks x y n last)) i 0 =
-    λ i h. let below : i < n = omega (arith, h, count) in
-    get_or-take n line i 0 below ∙ is i below ∙ sym (digit_of_block last n i x y (bit_at tms i) below (mode i below)) in
-    ext_get_or 0 (take n line) (clock_digits (block_clocks x y n last)) (count ∙ sym (count_of_digits last n x y)) one
+pub words_of_moves : (n tms : ℕ) → word_inputs tms 0 n ≡ with_zero (low_bits n tms)
+words_of_moves zero tms = refl
+words_of_moves (suc n) tms = ap (λ is. record { tms = nat_eq (tms % 2) 1; tdi = false } ∷ is) (words_of_moves n (tms / 2))
 
 -- TMS of a block whose last clock is marked
 last_tms : (n i : ℕ) → 1 ≤ n → i < n → bit_at (2 ^ (n - 1)) i ≡ bit_value (nat_eq (i + 1) n)
@@ -99,13 +128,12 @@ waiting_of_clocks digits [] = refl
 waiting_of_clocks digits (k ∷ ks) = waiting_of_clocks (with_digit digits (digit_of_clock k)) ks
 
 -- what a block notes is what its line of digits does
-module _ (last : Bool) (n tms x y : ℕ) (line digits : List ℕ) (room : n ≤ length line) (mode : (i : ℕ) → i < n → bit_at tms i ≡ bit_value (last && nat_eq (i + 1) n))
-    (is : (i : ℕ) → i < n → slice_index line i ≡ digit_at tms x y i) where
-  pub noted_lines : bytes_of true digits (pulses (block_clocks x y n last)) ≡ lines_of_digits digits (take n line)
-  noted_lines = bytes_of_clocks digits (block_clocks x y n last) ∙ ap (lines_of_digits digits) (sym (line_of_block last n tms x y line room mode is))
+module _ (n tms x y : ℕ) (line digits : List ℕ) (room : n ≤ length line) (is : (i : ℕ) → i < n → slice_index line i ≡ digit_at tms x y i) where
+  pub noted_lines : bytes_of true digits (pulses (word_clocks tms x y n)) ≡ lines_of_digits digits (take n line)
+  noted_lines = bytes_of_clocks digits (word_clocks tms x y n) ∙ ap (lines_of_digits digits) (sym (line_of_words n tms x y line room is))
 
-  pub noted_digits : waiting true digits (pulses (block_clocks x y n last)) ≡ with_digits digits (take n line)
-  noted_digits = waiting_of_clocks digits (block_clocks x y n last) ∙ ap (with_digits digits) (sym (line_of_block last n tms x y line room mode is))
+  pub noted_digits : waiting true digits (pulses (word_clocks tms x y n)) ≡ with_digits digits (take n line)
+  noted_digits = waiting_of_clocks digits (word_clocks tms x y n) ∙ ap (with_digits digits) (sym (line_of_words n tms x y line room is))
 
 -- ---- digits that are added at once
 
@@ -232,14 +260,13 @@ module _ {C O : Type 0} (breakage : PinCable C O → Breakage) (shown : O → Sh
   clock_by_line tms tdi e n (inr one) = inr (cut_by_line (record { tms = tms; tdi = tdi } ∷ []) e n one)
 
   -- all clocks were made, and a line of digits failed
-  pub front_by_pins : (tdi n tdo : ℕ) (last : Bool) → writes_pins a ≡ true → breakage a ≡ whole → breakage b ≢ whole →
-      HasShifted board makes (cable_of a) (cable_of b) (block_inputs tdi n last) tdo →
-      PutsFront shown (lines_of a) (bytes_of true (digits_of a) (pulses (block_clocks tdi tdo n last)))
+  pub front_by_pins : (is : List Input) (tms tdi n tdo : ℕ) → word_inputs tms tdi n ≡ is → writes_pins a ≡ true → breakage a ≡ whole → breakage b ≢ whole →
+      HasShifted board makes (cable_of a) (cable_of b) is tdo →
+      PutsFront shown (lines_of a) (bytes_of true (digits_of a) (pulses (word_clocks tms tdi tdo n)))
       (lines_of b) →
-      HasMadeFront (λ p. board (cable_of p)) (HasMadePins breakage shown makes) a b (block_inputs tdi n last)
-  front_by_pins tdi n tdo last pins was broken k f =
-      let is : List Input = block_inputs tdi n last in
-      let known : block_clocks tdi tdo n last ≡ k.clocks = block_known k.clocks tdi tdo n last k.made.went_in k.bits in
+      HasMadeFront (λ p. board (cable_of p)) (HasMadePins breakage shown makes) a b is
+  front_by_pins is tms tdi n tdo w pins was broken k f =
+      let known : word_clocks tms tdi tdo n ≡ k.clocks = words_known k.clocks is tms tdi tdo n w k.made.went_in k.bits in
       record {
         front = is;
         rest = [];
@@ -247,11 +274,11 @@ module _ {C O : Type 0} (breakage : PinCable C O → Breakage) (shown : O → Sh
         made = record {
           clocks = k.clocks;
           made = pins_made k.clocks k.made.made (record {
-            all = λ w. absurd (broken w);
+            all = λ now. absurd (broken now);
             some = λ m. record {
               front = subst (λ ks. PutsFront shown (lines_of a) (bytes_of (writes_pins a) (digits_of a) (pulses ks)) (lines_of b)) known
-                  (subst (λ p. PutsFront shown (lines_of a) (bytes_of p (digits_of a) (pulses (block_clocks tdi tdo n last))) (lines_of b)) (sym pins) f);
-              still = λ w. absurd (w was);
+                  (subst (λ p. PutsFront shown (lines_of a) (bytes_of p (digits_of a) (pulses (word_clocks tms tdi tdo n))) (lines_of b)) (sym pins) f);
+              still = λ now. absurd (now was);
             };
           });
           went_in = k.made.went_in;
@@ -290,17 +317,17 @@ module _ {C O : Type 0} (breakage : PinCable C O → Breakage) (shown : O → Sh
         digits = d ∙ sym kept;
       })
 
-  pub shifted_noted : (tdi n tdo : ℕ) (last : Bool) → writes_pins a ≡ true → breakage a ≡ whole → breakage b ≡ whole →
-      HasShifted board makes (cable_of a) (cable_of b) (block_inputs tdi n last) tdo →
-      Puts shown (lines_of a) (bytes_of true (digits_of a) (pulses (block_clocks tdi tdo n last))) (lines_of b) →
-      digits_of b ≡ waiting true (digits_of a) (pulses (block_clocks tdi tdo n last)) →
-      HasShifted (λ p. board (cable_of p)) (HasMadePins breakage shown makes) a b (block_inputs tdi n last) tdo
-  shifted_noted tdi n tdo last pins was now k p d =
-      let known : block_clocks tdi tdo n last ≡ k.clocks = block_known k.clocks tdi tdo n last k.made.went_in k.bits in
-      shifted_so (block_inputs tdi n last) tdo now k (record {
+  pub shifted_noted : (is : List Input) (tms tdi n tdo : ℕ) → word_inputs tms tdi n ≡ is → writes_pins a ≡ true → breakage a ≡ whole → breakage b ≡ whole →
+      HasShifted board makes (cable_of a) (cable_of b) is tdo →
+      Puts shown (lines_of a) (bytes_of true (digits_of a) (pulses (word_clocks tms tdi tdo n))) (lines_of b) →
+      digits_of b ≡ waiting true (digits_of a) (pulses (word_clocks tms tdi tdo n)) →
+      HasShifted (λ p. board (cable_of p)) (HasMadePins breakage shown makes) a b is tdo
+  shifted_noted is tms tdi n tdo w pins was now k p d =
+      let known : word_clocks tms tdi tdo n ≡ k.clocks = words_known k.clocks is tms tdi tdo n w k.made.went_in k.bits in
+      shifted_so is tdo now k (record {
         was_whole = was;
         put = subst (λ ks. Puts shown (lines_of a) (bytes_of (writes_pins a) (digits_of a) (pulses ks)) (lines_of b)) known
-            (subst (λ q. Puts shown (lines_of a) (bytes_of q (digits_of a) (pulses (block_clocks tdi tdo n last))) (lines_of b)) (sym pins) p);
-        digits = d ∙ ap (λ q. waiting q (digits_of a) (pulses (block_clocks tdi tdo n last))) (sym pins)
+            (subst (λ q. Puts shown (lines_of a) (bytes_of q (digits_of a) (pulses (word_clocks tms tdi tdo n))) (lines_of b)) (sym pins) p);
+        digits = d ∙ ap (λ q. waiting q (digits_of a) (pulses (word_clocks tms tdi tdo n))) (sym pins)
             ∙ ap (λ ks. waiting (writes_pins a) (digits_of a) (pulses ks)) known;
       })

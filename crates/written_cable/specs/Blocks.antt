@@ -1,15 +1,20 @@
--- The clocks of a block, by its bits, and their digits.
-use Rattle.std.specs.Prelude.{ℕ, Bool, List, [], ◌∷◌, ◌++◌, map}
+-- The clocks of a block, by numbers of their bits, and their digits.
+use Rattle.std.specs.Prelude.{ℕ, suc, zero, ◌/◌, ◌%◌, nat_eq, List, [], ◌∷◌, ◌++◌, map}
 use Rattle.base.specs.Bits.{low_bits}
-use Rattle.dev_card.specs.Board.{Clock}
+use Rattle.dev_card.specs.Board.{Clock, Input}
 use Rattle.dev_card.specs.Clocks.{clocks_with}
-use Rattle.dev_card.specs.Blocks.{block_inputs}
 use Rattle.stapl_meaning.specs.Texts.{full_line, with_digit}
 use Rattle.written_cable.specs.Resets.{digit_of_clock}
 
--- the clocks of a block at which these bits were seen
-abbrev pub block_clocks : ℕ → ℕ → ℕ → Bool → List Clock
-block_clocks tdi tdo n last = clocks_with (block_inputs tdi n last) (low_bits n tdo)
+-- what goes in at n clocks, whose TMS and TDI are the lowest bits of two numbers, the lowest first
+abbrev pub word_inputs : ℕ → ℕ → ℕ → List Input
+word_inputs tms tdi zero = []
+word_inputs tms tdi (suc n) =
+    record { tms = nat_eq (tms % 2) 1; tdi = nat_eq (tdi % 2) 1 } ∷ word_inputs (tms / 2) (tdi / 2) n
+
+-- these clocks, at which the lowest bits of a third number were seen
+abbrev pub word_clocks : ℕ → ℕ → ℕ → ℕ → List Clock
+word_clocks tms tdi tdo n = clocks_with (word_inputs tms tdi n) (low_bits n tdo)
 
 -- the digits of clocks
 abbrev pub clock_digits : List Clock → List ℕ

@@ -1,6 +1,5 @@
 //! A cable whose clocks are written.
 ghost use Rattle.std.specs.Prelude.{◌≡◌, ◌≤◌, ◌<◌, ◌+◌, ◌&&◌, ◌==◌, true, false, length, ℕ, OnOk};
-ghost use Rattle.std.specs.Int.{bit_at};
 ghost use Rattle.base.specs.Bits.{bit_value};
 ghost use Rattle.scan_paths.specs.Cables.{whole, Waits, Tunes, SignalAnswer};
 ghost use Rattle.scan_paths.specs.CableCalls.{KeepsCable};
@@ -8,7 +7,8 @@ ghost use Rattle.scan_paths.specs.Scans.{lengths_of};
 ghost use Rattle.stapl_meaning.specs.Deeds.{pulses};
 ghost use Rattle.stapl_meaning.specs.Texts.{pin_digit, full_line, with_digit, bytes_of, waiting, pin_limit};
 ghost use Rattle.written_cable.specs.OnPaper.{HasPutOn};
-ghost use Rattle.written_cable.specs.Blocks.{block_clocks, lines_of_digits, with_digits};
+ghost use Rattle.dev_card.specs.Blocks.{block_inputs};
+ghost use Rattle.written_cable.specs.Blocks.{word_inputs, word_clocks, lines_of_digits, with_digits};
 ghost use Rattle.written_cable.specs.Ports.{broken_part, IsNewPort, IsCableStill, HasFinished, IsKept};
 
 use crate::digits::Digits;
@@ -65,7 +65,7 @@ fn note<O: Paper>(out: &mut O, digits: &mut Digits, digit: u8) -> Result<(), Fai
 fn block_tms(n: u32, last: bool) -> u64
     requires some { 1 ≤ n }
     requires most { n ≤ 64 }
-    ensures { (i : ℕ) → i < n → bit_at result i ≡ bit_value (last && (i + 1 == n)) }
+    ensures { (tdi : ℕ) → word_inputs result tdi n ≡ block_inputs tdi n last }
 {
     if last { 1u64 << (n - 1) } else { 0 }
 }
@@ -89,24 +89,23 @@ fn note_line<O: Paper>(out: &mut O, digits: &mut Digits, line: &[u8]) -> Result<
     Ok(())
 }
 
-// Notes the clocks of a block.
+// Notes n clocks, of whose TMS, TDI and TDO these are the numbers.
 fn note_block<O: Paper>(
     out: &mut O,
     digits: &mut Digits,
+    tms: u64,
     tdi: u64,
     tdo: u64,
     n: u32,
-    last: bool,
 ) -> Result<(), Failed>
     requires whole { O.failed out.old ≡ false }
-    requires some { 1 ≤ n }
     requires most { n ≤ 64 }
     ensures put { HasPutOn O.Paper out.old
-        (bytes_of true digits.old (pulses (block_clocks tdi tdo n last))) out.new result }
-    ensures digits { OnOk result (digits.new ≡ waiting true digits.old (pulses (block_clocks tdi tdo n last))) }
+        (bytes_of true digits.old (pulses (word_clocks tms tdi tdo n))) out.new result }
+    ensures digits { OnOk result (digits.new ≡ waiting true digits.old (pulses (word_clocks tms tdi tdo n))) }
 {
     let mut line = [0u8; 64];
-    pin_digits(block_tms(n, last), tdi, tdo, n, &mut line);
+    pin_digits(tms, tdi, tdo, n, &mut line);
     note_line(out, digits, &line[..n as usize])
 }
 
@@ -214,7 +213,18 @@ impl<C: Cable, O: Paper> Cable for PinCable<'_, C, O> {
             return Ok(tdo);
         }
         self.torn = true;
-        note_block(self.out, &mut self.digits, tdi, tdo, n, last)?;
+        note_block(self.out, &mut self.digits, block_tms(n, last), tdi, tdo, n)?;
+        self.torn = false;
+        Ok(tdo)
+    }
+
+    fn move_block(&mut self, tms: u64, n: u32) -> Result<u64, Failed> {
+        let tdo = self.cable.move_block(tms, n)?;
+        if !self.pins {
+            return Ok(tdo);
+        }
+        self.torn = true;
+        note_block(self.out, &mut self.digits, tms, 0, tdo, n)?;
         self.torn = false;
         Ok(tdo)
     }

@@ -10,7 +10,7 @@ returns-in_err-send-clause-scanned g c =
     let m = g.C.Cable in
     let s = scan_of c.args.plan c.args.bits.now c.args.pads.now in
     let some = some_taken c.args.plan.len c.args.bits.now c.requires.some c.requires.inside in
-    let f1 = rw c.entry-tms.ensures at c.in_err-send.ensures.made in
+    let f1 = rw c.entry-tms.ensures.bits at c.in_err-send.ensures.made in
     scan_failed g.C.Cable _ c.from_residual.result c.from_residual.ensures.0
     (scanned_front m.board m.made c.args.cable.now c.args.at s c.requires.stable some c.requires.at (g.met.C.Cable.sound c.args.cable.now) c.send.new.cable
     (scan_failed_1 m.board m.made g.met.C.Cable.both_made c.args.at s c.args.cable.now c.send.new.cable f1))
@@ -20,7 +20,7 @@ returns-in_err-shift_padded-clause-scanned g c =
     let m = g.C.Cable in
     let s = scan_of c.args.plan c.args.bits.now c.args.pads.now in
     let some = some_taken c.args.plan.len c.args.bits.now c.requires.some c.requires.inside in
-    let m1 = rw c.entry-tms.ensures at c.in_ok-send.ensures.made in
+    let m1 = rw c.entry-tms.ensures.bits at c.in_ok-send.ensures.made in
     scan_failed g.C.Cable _ c.from_residual-in_err-shift_padded.result c.from_residual-in_err-shift_padded.ensures.0
     (scanned_front m.board m.made c.args.cable.now c.args.at s c.requires.stable some c.requires.at (g.met.C.Cable.sound c.args.cable.now) c.shift_padded.new.cable
     (scan_failed_2 m.board m.made g.met.C.Cable.both_made c.args.at s c.args.cable.now c.send.new.cable c.shift_padded.new.cable m1 c.in_err-shift_padded.ensures.made))
@@ -30,7 +30,7 @@ returns-in_err-send-2-clause-scanned g c =
     let m = g.C.Cable in
     let s = scan_of c.args.plan c.args.bits.now c.args.pads.now in
     let some = some_taken c.args.plan.len c.args.bits.now c.requires.some c.requires.inside in
-    let m1 = rw c.entry-tms.ensures at c.in_ok-send.ensures.made in
+    let m1 = rw c.entry-tms.ensures.bits at c.in_ok-send.ensures.made in
     scan_failed g.C.Cable _ c.from_residual-in_err-send-2.result c.from_residual-in_err-send-2.ensures.0
     (scanned_front m.board m.made c.args.cable.now c.args.at s c.requires.stable some c.requires.at (g.met.C.Cable.sound c.args.cable.now) c.send-2.new.cable
     (scan_failed_3 m.board m.made g.met.C.Cable.both_made c.args.at s c.args.cable.now c.send.new.cable c.shift_padded.new.cable c.send-2.new.cable _ _ m1
@@ -41,7 +41,7 @@ returns-in_err-state-clause-scanned g c =
     let m = g.C.Cable in
     let s = scan_of c.args.plan c.args.bits.now c.args.pads.now in
     let some = some_taken c.args.plan.len c.args.bits.now c.requires.some c.requires.inside in
-    let m1 = rw c.entry-tms.ensures at c.in_ok-send.ensures.made in
+    let m1 = rw c.entry-tms.ensures.bits at c.in_ok-send.ensures.made in
     let f4 = rw c.pause.ensures at c.in_err-state.ensures.made in
     scan_failed g.C.Cable _ c.from_residual-in_err-state.result c.from_residual-in_err-state.ensures.0
     (scanned_front m.board m.made c.args.cable.now c.args.at s c.requires.stable some c.requires.at (g.met.C.Cable.sound c.args.cable.now) c.move_to.new.cable
@@ -53,7 +53,7 @@ move_to-requires-clause-at g c =
     let m = g.C.Cable in
     let s = scan_of c.args.plan c.args.bits.now c.args.pads.now in
     let some = some_taken c.args.plan.len c.args.bits.now c.requires.some c.requires.inside in
-    let m1 = rw c.entry-tms.ensures at c.in_ok-send.ensures.made in
+    let m1 = rw c.entry-tms.ensures.bits at c.in_ok-send.ensures.made in
     rw c.pause.ensures (at_the_pause m.board m.made g.met.C.Cable.both_made c.args.at s c.args.cable.now c.send.new.cable c.shift_padded.new.cable c.send-2.new.cable _ _ c.requires.stable some m1
     c.in_ok-shift_padded.ensures.made c.in_ok-send-2.ensures.made c.requires.at)
 
@@ -63,7 +63,7 @@ returns-clause-scanned g c =
     let s = scan_of c.args.plan c.args.bits.now c.args.pads.now in
     let pads = c.args.pads.now in
     let n = c.args.plan.len in
-    let m1 = rw c.entry-tms.ensures at c.in_ok-send.ensures.made in
+    let m1 = rw c.entry-tms.ensures.bits at c.in_ok-send.ensures.made in
     let m4 = rw c.pause.ensures at c.in_ok-state.ensures.made in
     let e : planned_pre c.args.plan + pads.pre ≡ s.paddings.base_pre + length s.paddings.pre =
     ap (λ k. planned_pre c.args.plan + k) (sym (length-take-le pads.pre pads.pre_bits c.requires.pads.pre)) in

@@ -5,11 +5,11 @@ use Rattle.written_cable.proofs.pin_cable.note_block.Goals as goal
 pub returns-clause-put : goal.returns-clause-put
 returns-clause-put g c =
     let a = c.args in
-    rw (noted_lines a.last a.n c.block_tms.result a.tdi a.tdo c.pin_digits.new.out a.digits.now (omega arith) c.block_tms.ensures c.pin_digits.ensures.first)
+    rw (noted_lines a.n a.tms a.tdi a.tdo c.pin_digits.new.out a.digits.now (omega arith) c.pin_digits.ensures.first)
     c.note_line.ensures.put
 
 pub returns-clause-digits : goal.returns-clause-digits
 returns-clause-digits g c =
     let a = c.args in
-    rw (noted_digits a.last a.n c.block_tms.result a.tdi a.tdo c.pin_digits.new.out a.digits.now (omega arith) c.block_tms.ensures c.pin_digits.ensures.first)
+    rw (noted_digits a.n a.tms a.tdi a.tdo c.pin_digits.new.out a.digits.now (omega arith) c.pin_digits.ensures.first)
     c.note_line.ensures.digits

@@ -33,8 +33,8 @@ returns-in_err-note_block-clause-shifted g c =
       pins = refl;
       base =
           refl;
-    }) refl c.in_err-note_block.ensures.put.same c.args.tdi c.args.n c.in_ok-tdo.tdo c.args.last
-    (search rules) c.requires.whole (search rules) c.in_ok-tdo.ensures.shifted c.in_err-note_block.ensures.put.front)
+    }) refl c.in_err-note_block.ensures.put.same _ c.block_tms.result c.args.tdi c.args.n c.in_ok-tdo.tdo
+    (c.block_tms.ensures c.args.tdi) (search rules) c.requires.whole (search rules) c.in_ok-tdo.ensures.shifted c.in_err-note_block.ensures.put.front)
 
 pub returns-clause-shifted : goal.returns-clause-shifted
 returns-clause-shifted g c =
@@ -47,6 +47,6 @@ returns-clause-shifted g c =
       pins = refl;
       base =
           refl;
-    }) refl c.in_ok-note_block.ensures.put.same c.args.tdi c.args.n c.in_ok-tdo.tdo c.args.last
-    (search rules) c.requires.whole
+    }) refl c.in_ok-note_block.ensures.put.same _ c.block_tms.result c.args.tdi c.args.n c.in_ok-tdo.tdo
+    (c.block_tms.ensures c.args.tdi) (search rules) c.requires.whole
     (search rules) c.in_ok-tdo.ensures.shifted c.in_ok-note_block.ensures.put.put c.in_ok-note_block.ensures.digits
