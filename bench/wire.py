@@ -8,7 +8,8 @@ and by scripts/drive_wire over TCP, and OpenOCD over TCP. A program and an SVF f
 program in a loop. A line has the clocks of a play, how often the peer answered, and how often with one answer alone;
 and the clocks a second, by wall time and by the processor time of the player, each beside OpenOCD's. A time is the
 shortest of some runs (5 if --runs is missing), less that of a play without a scan; a wall time lasts until the peer has
-ended, too. --program is the built zanutero_drive of another checkout, or compiled code that is not proved.
+ended, too. A time that is too short to say gives no number. --program is the built zanutero_drive of another checkout,
+or compiled code that is not proved.
 """
 import argparse
 import os
@@ -66,6 +67,8 @@ KINDS = (
     ("40 waits of 1,000 cycles", waits(1000, 40)),
 )
 NOTHING = waits(1, 0)
+# A time below so many seconds is lost in the time that the start takes.
+SHORTEST = 0.02
 
 
 class Wire:
@@ -114,12 +117,13 @@ class Wire:
 
 
 def row(kind, name, took, least, beside):
-    """Prints a line of the table, and gives the clocks a second."""
-    clocks, exchanges, alone = (took[2][at] - least[2][at] for at in (0, 2, 3))
-    speeds = [clocks / max(took[at] - least[at], 0.001) for at in (0, 1)]
+    """Prints a line of the table, and gives the clocks a second, or nothing for a time that is too short to say."""
+    clocks, exchanges, alone = (max(took[2][at] - least[2][at], 0) for at in (0, 2, 3))
+    seconds = [took[at] - least[at] for at in (0, 1)]
+    speeds = [clocks / it if it > SHORTEST else None for it in seconds]
     cells = [kind, name, f"{clocks:,}", f"{exchanges:,}", f"{alone:,}"]
     for speed, other in zip(speeds, beside or speeds):
-        cells += [f"{speed:,.0f}", f"{speed / other:.2f}"]
+        cells += [f"{speed:,.0f}" if speed else "", f"{speed / other:.2f}" if speed and other else ""]
     print(f"| {' | '.join(cells)} |", flush=True)
     return speeds
 
