@@ -21,7 +21,7 @@ loop-turn-init g c =
 pub returns-in_err-tdo-clause-front : goal.returns-in_err-tdo-clause-front
 returns-in_err-tdo-clause-front g c =
     let m = g.C.Cable in
-    let n = rw (next_same 5 c.loop-turn._turn true (omega arith)) at c.loop-turn.invariant.noted in
+    let n = rw (next_same 5 c.loop-turn._turn 1 true (omega arith) (λ t. omega arith) (omega arith)) at c.loop-turn.invariant.noted in
     on_err _ (way_failed m.board m.made g.met.C.Cable.both_made c.args.cable.now c.loop-turn.cable c.clock.new.self _ _ _ c.in_err-tdo.ensures.clocked
     (noted_way m.board m.made c.args.cable.now c.loop-turn.cable _ _ n))
 
@@ -34,7 +34,7 @@ returns-in_err-tdo-clause-pins g c = part_then c.loop-turn.invariant.pins c.in_e
 pub loop-turn-preserved : goal.loop-turn-preserved
 loop-turn-preserved g c =
     let m = g.C.Cable in
-    let n = rw (next_same 5 c.loop-turn._turn true (omega arith)) at c.loop-turn.invariant.noted in
+    let n = rw (next_same 5 c.loop-turn._turn 1 true (omega arith) (λ t. omega arith) (omega arith)) at c.loop-turn.invariant.noted in
     record {
       whole = c.in_ok-tdo.ensures.kept.unbroken;
       few = rw (c.push.ensures) (length_more c.loop-turn.digits _ c.loop-turn._turn c.loop-turn.invariant.few);
