@@ -11,5 +11,5 @@ mod waver;
 mod words;
 
 pub use status::WaveStatus;
-pub use wave::put_wave;
+pub use wave::{Control, Levels, Wave, put_wave};
 pub use waver::Waver;

@@ -15,7 +15,7 @@ use trace_check::{digits_of, first_line};
 
 /// What is known of the state of the controllers.
 #[derive(Clone, Copy)]
-pub(crate) enum Control {
+pub enum Control {
     /// Nothing; so many ones have come last, up to four.
     Unknown(u8),
     /// The state.
@@ -24,7 +24,7 @@ pub(crate) enum Control {
 
 /// The levels of the wires, as the dump has them, and the number of the state, or 16.
 #[derive(Clone, Copy)]
-pub(crate) struct Levels {
+pub struct Levels {
     tck: u8,
     tms: u8,
     tdi: u8,
@@ -34,7 +34,7 @@ pub(crate) struct Levels {
 
 /// A wave up to a time, in microseconds.
 #[derive(Clone, Copy)]
-pub(crate) struct Wave {
+pub struct Wave {
     time: u64,
     levels: Levels,
     control: Control,

@@ -1,0 +1,4 @@
+pub mod Counted
+pub mod Nested
+pub mod Limited
+pub mod Bracketed

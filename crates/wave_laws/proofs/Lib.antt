@@ -1,0 +1,3 @@
+pub mod ShownStates
+pub mod ReadLines
+pub mod ReadDumps
