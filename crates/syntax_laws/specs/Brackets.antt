@@ -1,5 +1,5 @@
--- Which brackets are needed, by the grammar alone. Source: JESD71, expressions. That canonical text has no others is this
--- profile's rule.
+-- Which brackets are needed, by the grammar alone. Source: JESD71, expressions. That canonical text has no others is
+-- this profile's rule.
 use Rattle.std.specs.Prelude.{◌≡◌, List, [], ◌∷◌, ◌++◌, map}
 use Rattle.stapl_syntax.specs.Symbols.{Symbol}
 use Rattle.stapl_syntax.specs.Trees.{ExprTree}

@@ -1,6 +1,6 @@
 -- What a reader sees of a dump.
-use Rattle.std.proofs.Common.{◌≡◌, ◌<◌, ◌≤◌, ◌+◌, ◌/◌, ◌%◌, ◌^◌, ◌∙◌, ℕ, Bool, true, false, List, [], ◌∷◌, ◌++◌, refl, sym, ap, append_assoc, append-nil, arith}
-use Rattle.std.specs.Prelude.{◌==◌, ◌&&◌, ◌↔◌, codes, if◌then◌else◌}
+use Rattle.std.proofs.Common.{◌≡◌, ◌<◌, ◌+◌, ◌/◌, ◌%◌, ◌^◌, ◌∙◌, ℕ, Bool, true, false, List, [], ◌∷◌, ◌++◌, refl, sym, ap, append_assoc, append-nil, arith}
+use Rattle.std.specs.Prelude.{◌==◌, ◌↔◌, codes, if◌then◌else◌}
 use Rattle.std.specs.Str.Parse.{digits_value}
 use Rattle.std.proofs.lemmas.Bool.{and_parts}
 use Rattle.std.proofs.lemmas.Bool.Decides.{nat_tests}
@@ -13,7 +13,7 @@ use Rattle.wave_tool.specs.declared.wave.Control.TheVariants.{Unknown, In}
 use Rattle.wave_tool.specs.declared.wave.Levels.{Levels}
 use Rattle.wave_tool.specs.declared.wave.Wave.{Wave}
 use Rattle.wave_tool.specs.Items.{Item, Clocked, Waited}
-use Rattle.wave_tool.specs.Waves.{level_of, wire_change, state_level, state_wire, state_change, changes, are_same, time_line, moment, low_levels, high_levels, control_of, rest_levels, item_text, after_item, items_text, after_items, shown_number, first_wave, end_text, head_text, wave_text}
+use Rattle.wave_tool.specs.Waves.{level_of, wire_change, state_level, state_wire, changes, are_same, time_line, moment, low_levels, high_levels, rest_levels, item_text, after_item, items_text, after_items, shown_number, first_wave, end_text, head_text, wave_text}
 use Rattle.wave_laws.specs.Readers.{Rise, View, after_lines, no_view, view_of, state_levels, bit_digit, rises_of, length_of}
 use Rattle.wave_laws.specs.States.{tms_values, shown_after, LeadsFromReset}
 use Rattle.wave_laws.proofs.ShownStates.{known_after, shown_is, below_16, shown_exactly, unknown_exactly}
@@ -48,6 +48,7 @@ above n = record { no_feed = no_feed n; no_time = no_time n }
   where
     no_feed : (n : ℕ) → (48 + n == 10) ≡ false
     no_feed n = grind (arith, nat_tests)
+
     no_time : (n : ℕ) → (48 + n == 35) ≡ false
     no_time n = grind (arith, nat_tests)
 
@@ -73,13 +74,13 @@ others v tck time rises old new are first =
     let tdi : Reads v1 (wire_change 35 old.tdi new.tdi) v2 = reads_wire v1 35 old.tdi new.tdi refl are.tdi (λ e. ap (λ k. record v1 { tdi = k }) (sym e)) in
     let tdo : Reads v2 (wire_change 36 old.tdo new.tdo) v3 = reads_wire v2 36 old.tdo new.tdo refl are.tdo (λ e. ap (λ k. record v2 { tdo = k }) (sym e)) in
     let tap3 : Reads v3 (state_wire 37 8 old.state new.state) v4 =
-        reads_wire v3 37 (state_level 8 old.state) (state_level 8 new.state) refl (state_is_level 8 new.state) (λ e. ap (λ k. record v3 { tap3 = k }) (sym e)) in
+    reads_wire v3 37 (state_level 8 old.state) (state_level 8 new.state) refl (state_is_level 8 new.state) (λ e. ap (λ k. record v3 { tap3 = k }) (sym e)) in
     let tap2 : Reads v4 (state_wire 38 4 old.state new.state) v5 =
-        reads_wire v4 38 (state_level 4 old.state) (state_level 4 new.state) refl (state_is_level 4 new.state) (λ e. ap (λ k. record v4 { tap2 = k }) (sym e)) in
+    reads_wire v4 38 (state_level 4 old.state) (state_level 4 new.state) refl (state_is_level 4 new.state) (λ e. ap (λ k. record v4 { tap2 = k }) (sym e)) in
     let tap1 : Reads v5 (state_wire 39 2 old.state new.state) v6 =
-        reads_wire v5 39 (state_level 2 old.state) (state_level 2 new.state) refl (state_is_level 2 new.state) (λ e. ap (λ k. record v5 { tap1 = k }) (sym e)) in
+    reads_wire v5 39 (state_level 2 old.state) (state_level 2 new.state) refl (state_is_level 2 new.state) (λ e. ap (λ k. record v5 { tap1 = k }) (sym e)) in
     let tap0 : Reads v6 (state_wire 40 1 old.state new.state) (view_with tck time rises new) =
-        reads_wire v6 40 (state_level 1 old.state) (state_level 1 new.state) refl (state_is_level 1 new.state) (λ e. ap (λ k. record v6 { tap0 = k }) (sym e)) in
+    reads_wire v6 40 (state_level 1 old.state) (state_level 1 new.state) refl (state_is_level 1 new.state) (λ e. ap (λ k. record v6 { tap0 = k }) (sym e)) in
     reads_both (reads_both (reads_both (reads_both first tms) tdi) tdo) (reads_both (reads_both (reads_both tap3 tap2) tap1) tap0)
 
 -- TCK falls, or stays at 0
@@ -115,6 +116,7 @@ same_levels old new e =
   where
     equal : (a b : ℕ) → (a == b) ≡ true → a ≡ b
     equal a b e = grind (arith, nat_tests)
+
     joined : (old new : Levels) → old.tck ≡ new.tck → old.tms ≡ new.tms → old.tdi ≡ new.tdi → old.tdo ≡ new.tdo → old.state ≡ new.state → old ≡ new
     joined old new a b c d e = λ j. record { tck = a j; tms = b j; tdi = c j; tdo = d j; state = e j }
 
@@ -174,8 +176,7 @@ items_read seen rises (Clocked digit ∷ items) w are small =
     let rise = rise_of w.time digit in
     let low = are_levels w.levels digit in
     let rest = items_read (w.time + 1) (rises ++ rise ∷ []) items after (record { tms = low.tms; tdi = low.tdi; tdo = low.tdo }) (omega arith) in
-    let end = after_items after items in
-    (
+    let end = after_items after items in (
       rest.0,
       reads_as (reads_both (clock_read seen rises w digit (omega arith)) rest.1)
           (ap (λ r. view_with end.levels.tck rest.0 r end.levels) (append_assoc rises (rise ∷ []) (rises_of after.time items))),
@@ -274,8 +275,7 @@ pub state_seen : (items : List Item) (tap : Tap) → length_of items < 2 ^ 64 �
     (digits_value 2 (state_levels (view_of (wave_text items))) ≡ tap_number tap) ↔ LeadsFromReset (tms_values items) tap
 state_seen items tap small =
     let levels = levels_seen items small in
-    let known = known_after (Unknown 0) (tms_values items) in
-    (
+    let known = known_after (Unknown 0) (tms_values items) in (
       (λ e. (shown_exactly items tap).0 (shown_if_spelled known (shown_after items) tap (shown_is items) (ap (digits_value 2) (sym levels) ∙ e))),
       (λ h. ap (digits_value 2) levels ∙ ap (λ n. digits_value 2 (levels_for n)) ((shown_exactly items tap).1 h) ∙ state_spelled tap),
     )
@@ -289,8 +289,7 @@ pub unknown_seen : (items : List Item) → length_of items < 2 ^ 64 →
     (state_levels (view_of (wave_text items)) ≡ codes "xxxx") ↔ ((tap : Tap) → LeadsFromReset (tms_values items) tap → ⊥)
 unknown_seen items small =
     let levels = levels_seen items small in
-    let known = known_after (Unknown 0) (tms_values items) in
-    (
+    let known = known_after (Unknown 0) (tms_values items) in (
       (λ e. (unknown_exactly items).0 (unknown_if_spelled known (shown_after items) (shown_is items) (sym levels ∙ e))),
       (λ none. levels ∙ ap levels_for ((unknown_exactly items).1 none)),
     )

@@ -1,7 +1,7 @@
 -- A dump is read line by line.
-use Rattle.std.proofs.Common.{◌≡◌, ◌<◌, ◌≤◌, ◌+◌, ◌*◌, ◌/◌, ◌%◌, ◌^◌, ◌∙◌, ℕ, pos, Bool, true, false, List, [], ◌∷◌, ◌++◌, refl, sym, ap, subst, append_assoc, arith}
+use Rattle.std.proofs.Common.{◌≡◌, ◌<◌, ◌+◌, ◌%◌, ◌^◌, ◌∙◌, ℕ, Bool, true, false, List, [], ◌∷◌, ◌++◌, refl, sym, ap, subst, append_assoc, arith}
 use Rattle.std.specs.Prelude.{◌==◌, ◌&&◌, not, if◌then◌else◌}
-use Rattle.std.specs.Fmt.{decimal, signed_decimal}
+use Rattle.std.specs.Fmt.{decimal}
 use Rattle.std.specs.List.{list_all}
 use Rattle.std.specs.Str.Parse.{digits_value}
 use Rattle.std.proofs.lemmas.Bool.{and_parts}
@@ -85,13 +85,16 @@ reads_wire v id old new fed level same = by (old == new) refl
   where
     equal : (a b : ℕ) → (a == b) ≡ true → a ≡ b
     equal a b e = grind (arith, nat_tests)
+
     changed : (s t : Bool) → s ≡ false → t ≡ false → (not s && (not t && true)) ≡ true
     changed true t p q = absurd cc
     changed false true p q = absurd cc
     changed false false p q = refl
+
     noted : (t : Bool) → t ≡ false → (if t then record v { time = digits_value 10 (id ∷ []) } else with_level v id new) ≡ with_level v id new
     noted true e = absurd cc
     noted false e = refl
+
     by : (t : Bool) → (old == new) ≡ t → Reads v (if t then [] else new ∷ id ∷ 10 ∷ []) (with_level v id new)
     by true e = reads_none (sym (same (equal old new e)))
     by false e = reads_as (reads_line v (new ∷ id ∷ []) (changed (new == 10) (id == 10) level.no_feed fed)) (noted (new == 35) level.no_time)

@@ -1,11 +1,11 @@
 -- The state that a wave shows is that of controllers in any state, from five ones in a row on.
-use Rattle.std.proofs.Common.{◌≡◌, ◌<◌, ◌≤◌, ◌+◌, ◌∙◌, ℕ, zero, suc, Bool, true, false, List, [], ◌∷◌, ◌++◌, add-one, refl, sym, ap, subst, append_assoc, arith}
+use Rattle.std.proofs.Common.{◌≡◌, ◌<◌, ◌≤◌, ◌+◌, ◌∙◌, ℕ, zero, suc, Bool, true, false, List, [], ◌∷◌, ◌++◌, add-one, refl, sym, ap, subst, arith}
 use Rattle.std.specs.Prelude.{◌↔◌, nat_le, if◌then◌else◌}
 use Rattle.std.proofs.lemmas.Bool.Decides.{nat_tests}
 use Rattle.tap_states.specs.declared.Tap.{Tap}
 use Rattle.tap_states.specs.declared.Tap.TheVariants.{Reset, Idle, DrSelect, DrCapture, DrShift, DrExit1, DrPause, DrExit2, DrUpdate, IrSelect, IrCapture, IrShift, IrExit1, IrPause, IrExit2, IrUpdate}
 use Rattle.tap_states.specs.Tap.{next_of, tap_number}
-use Rattle.tap_states.specs.Path.{walk, Leads, five_ones}
+use Rattle.tap_states.specs.Path.{walk, five_ones}
 use Rattle.tap_states.proofs.States.{tap_number-injective}
 use Rattle.tap_states.proofs.Shortest.{five_ones_lead}
 use Rattle.wave_tool.specs.declared.wave.Control.{Control}
@@ -98,6 +98,7 @@ a_one_before k values tap true le test next e =
   where
     four_is : (k : ℕ) → k ≤ 4 → nat_le 4 k ≡ true → k ≡ 4
     four_is k le test = grind (arith, nat_tests)
+
     same_tap : (a b : Tap) → In a ≡ In b → a ≡ b
     same_tap a b e = cc
 a_one_before k values tap false le test next e =

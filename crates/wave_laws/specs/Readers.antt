@@ -1,5 +1,5 @@
--- What a reader of a Value Change Dump sees (IEEE 1364, value change dump files): the levels of the wires over time, and
--- so the clocks, each where TCK rises. It names nothing of how the dump is made.
+-- What a reader of a Value Change Dump sees (IEEE 1364, value change dump files): the levels of the wires over time,
+-- and so the clocks, each where TCK rises. It names nothing of how the dump is made.
 use Rattle.std.specs.Prelude.{ℕ, ◌+◌, ◌==◌, ◌&&◌, Bool, true, false, List, [], ◌∷◌, ◌++◌, if◌then◌else◌}
 use Rattle.std.specs.Str.Parse.{digits_value}
 use Rattle.pin_lines.specs.PinLines.{lines_of, clock_of_pin}
@@ -85,7 +85,8 @@ abbrev pub bit_digit : Bool → ℕ
 bit_digit true = 49
 bit_digit false = 48
 
--- where TCK rises for clocks and waits that begin at a time: a clock takes two microseconds, and TCK rises in its middle
+-- where TCK rises for clocks and waits that begin at a time: a clock takes two microseconds, and TCK rises in its
+-- middle
 abbrev pub rises_of : ℕ → List Item → List Rise
 rises_of time [] = []
 rises_of time (Clocked digit ∷ items) =

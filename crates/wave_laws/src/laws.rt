@@ -8,8 +8,8 @@ ghost use Rattle.wave_tool.specs.Waves.{wave_text};
 ghost use Rattle.wave_laws.specs.States.{tms_values, shown_after, LeadFromEach, LeadsFromReset};
 ghost use Rattle.wave_laws.specs.Readers.{view_of, state_levels, rises_of, length_of};
 
-/// A state is shown exactly if five ones in a row have led to Test-Logic-Reset, and the clocks since then to this state.
-/// Then the clocks lead to it from each of the sixteen states. Else the state is unknown, which is shown by 16.
+/// A state is shown exactly if five ones in a row have led to Test-Logic-Reset, and the clocks since then to this
+/// state. Then the clocks lead to it from each of the sixteen states. Else the state is unknown, which is shown by 16.
 pub fn a_state_is_shown_after_five_ones()
     ensures shown { (items : List Item) (tap : Tap) →
         (shown_after items ≡ tap_number tap) ↔ LeadsFromReset (tms_values items) tap }
@@ -20,8 +20,8 @@ pub fn a_state_is_shown_after_five_ones()
 {}
 
 /// A reader of the dump sees TCK rise for each clock, at its time and with its TMS, TDI and TDO, and for no other, and
-/// how long all takes. At the end the four wires of the state spell the number of the state in binary digits, exactly if
-/// it is sure; else each of them is unknown.
+/// how long all takes. At the end the four wires of the state spell the number of the state in binary digits, exactly
+/// if it is sure; else each of them is unknown.
 pub fn a_reader_sees_the_clocks()
     ensures rises { (items : List Item) → length_of items < 2 ^ 64 →
         (view_of (wave_text items)).rises ≡ rises_of 0 items }

@@ -1,5 +1,5 @@
-//! Second opinions on the wave of a trace: the states that it shows, and what a reader of its dump sees. Definitions and
-//! laws.
+//! Second opinions on the wave of a trace: the states that it shows, and what a reader of its dump sees. Definitions
+//! and laws.
 #![tactic(auto)]
 
 pub mod laws;
