@@ -1,0 +1,46 @@
+-- Worked runs and accounts.
+use Rattle.std.proofs.Common.{◌≡◌, [], ◌∷◌, ◌++◌, true, false, refl}
+use Rattle.std.specs.Prelude.{codes, pos}
+use Rattle.std.specs.Fmt.{digits}
+use Rattle.stapl_meaning.specs.declared.events.Ending.TheVariants.{Exit}
+use Rattle.scan_accounts.specs.Accounts.{passages_of}
+use Rattle.scan_accounts.specs.AccountTexts.{account_text, passage_line}
+use Rattle.scan_accounts.specs.PinRuns.{runs_of_pins}
+use Rattle.scan_accounts.specs.AccountExamples.{example_run, instruction_run, one_clock_run, padded_run, example_source, scanning_turn, walking_turn, example_play}
+
+pub two_scans : runs_of_pins (codes "C 5555515112161551551112241551\nE exit 0\n") ≡ example_run ∷ instruction_run ∷ []
+two_scans = refl
+
+pub over_lines : runs_of_pins (codes "C 555551511\nC 21\nC 61551\n") ≡ example_run ∷ []
+over_lines = refl
+
+pub one_walk : runs_of_pins (codes "C 555551511451\n") ≡ one_clock_run ∷ []
+one_walk = refl
+
+pub with_pause : runs_of_pins (codes "C 555551511415141\n") ≡ one_clock_run ∷ one_clock_run ∷ []
+with_pause = refl
+
+pub at_the_end : runs_of_pins (codes "C 5555515110\n") ≡ one_clock_run ∷ []
+at_the_end = refl
+
+pub no_run : runs_of_pins (codes "C 555551\nP A\n") ≡ []
+no_run = refl
+
+pub a_scan : passages_of example_play.base scanning_turn ≡ record { place = 0; scan = true; run = example_run } ∷ []
+a_scan = refl
+
+pub no_scan : passages_of example_play.base (record scanning_turn { scans = false }) ≡ record { place = 0; scan = false; run = padded_run } ∷ []
+no_scan = refl
+
+pub a_line : passage_line example_source (record { place = 2; scan = true; run = instruction_run }) ≡ codes "S 3 line 8 IRSCAN 4 in 6 out 1\n"
+unfolding digits
+a_line = refl
+
+pub a_walk : passages_of example_play.base walking_turn ≡ record { place = 1; scan = false; run = one_clock_run } ∷ []
+a_walk = refl
+
+pub a_text : account_text example_source example_play (Exit (pos 0))
+    ≡ codes "S 1 line 7 DRSCAN 3 in 5 out 2\nS 2 line 8 WALK DR 1 in 0 out 0\nP A\nW 7\n"
+    ++ codes "S turns 3 clocks 26 usec 7 irscans 0 drscans 1\nE exit 0\n"
+unfolding digits
+a_text = refl

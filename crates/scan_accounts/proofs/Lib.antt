@@ -1,0 +1,9 @@
+pub mod MadeEvents
+pub mod JoinedRuns
+pub mod WalkedTurns
+pub mod StableRows
+pub mod StableTurns
+pub mod PinRuns
+pub mod OtherLines
+pub mod StableStarts
+pub mod Examples

@@ -1,0 +1,49 @@
+-- The text of a play with its account. The format is this profile's.
+use Rattle.std.specs.Prelude.{ℕ, ◌+◌, pos, Bool, true, false, List, [], ◌∷◌, ◌++◌, length, codes, flat_map}
+use Rattle.bit_list.specs.Hexadecimal.{all_hex_digits}
+use Rattle.tool_io.specs.Texts.{labelled, number_line}
+use Rattle.stapl_lexer.specs.declared.piece.Piece.{Piece}
+use Rattle.dev_card.specs.Padding.{BaseLengths}
+use Rattle.stapl_syntax.specs.Programs.{line_of_index}
+use Rattle.stapl_meaning.specs.declared.events.Ending.{Ending}
+use Rattle.stapl_meaning.specs.Texts.{events_text, ending_line}
+use Rattle.scan_accounts.specs.MadeTurns.{MadeTurn, MadePlay}
+use Rattle.scan_accounts.specs.Accounts.{Passage, passages_of, Account, account_of}
+
+-- what a run is called, true for a scan, and then true for the instruction registers
+abbrev pub passage_name : Bool → Bool → List ℕ
+passage_name true true = codes "IRSCAN"
+passage_name true false = codes "DRSCAN"
+passage_name false true = codes "WALK IR"
+passage_name false false = codes "WALK DR"
+
+-- a text, cut into its pieces
+pub record CutText : Type 0 where
+  pub text : List ℕ
+  pub pieces : List Piece
+
+-- the line of a run: its piece, counted from 1, the line of that in the text, what it is, how many bits it has, and
+-- these in hexadecimal digits
+abbrev pub passage_line : CutText → Passage → List ℕ
+passage_line source p =
+    labelled (codes "S ") (pos (p.place + 1))
+    ++ labelled (codes " line ") (pos (line_of_index source.text source.pieces p.place))
+    ++ codes " " ++ passage_name p.scan p.run.ir ++ labelled (codes " ") (pos (length p.run.bits_in))
+    ++ codes " in " ++ all_hex_digits p.run.bits_in ++ codes " out " ++ all_hex_digits p.run.bits_out ++ 10 ∷ []
+
+-- the lines of a turn: those of its runs, and then what else it writes
+abbrev pub turn_lines : CutText → BaseLengths → MadeTurn → List ℕ
+turn_lines source base t = flat_map (passage_line source) (passages_of base t) ++ events_text false [] t.events
+
+-- the line of the sums
+abbrev pub account_line : Account → List ℕ
+account_line a =
+    labelled (codes "S turns ") (pos a.turns) ++ labelled (codes " clocks ") (pos a.clocks)
+    ++ labelled (codes " usec ") (pos a.usec) ++ labelled (codes " irscans ") (pos a.ir_scans)
+    ++ number_line (codes " drscans ") (pos a.dr_scans)
+
+-- the whole text of a play that has ended
+abbrev pub account_text : CutText → MadePlay → Ending → List ℕ
+account_text source play ending =
+    events_text false [] play.first ++ flat_map (turn_lines source play.base) play.turns
+    ++ account_line (account_of play) ++ ending_line ending

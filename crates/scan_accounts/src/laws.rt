@@ -1,0 +1,85 @@
+//! Laws of the definitions.
+ghost use Rattle.std.specs.Prelude.{◌≡◌, ◌++◌, ℕ, List, [], ◌∷◌, All, true, false, flat_map, length, map, pos, codes};
+ghost use Rattle.dev_card.specs.FarEnds.{FarEnd};
+ghost use Rattle.dev_card.specs.Padding.{BaseLengths};
+ghost use Rattle.tap_states.specs.Tap.{is_stable_state};
+ghost use Rattle.stapl_syntax.specs.Trees.{StmtTree};
+ghost use Rattle.stapl_syntax.specs.Programs.{IsProgram};
+ghost use Rattle.stapl_meaning.specs.declared.events.Ending.{Ending};
+ghost use Rattle.stapl_meaning.specs.declared.events.Ending.TheVariants.{Exit};
+ghost use Rattle.stapl_meaning.specs.Scopes.{Played, as_played};
+ghost use Rattle.stapl_meaning.specs.Plays.{play};
+ghost use Rattle.stapl_meaning.specs.Texts.{events_text, text_of};
+ghost use Rattle.padded_plays.specs.QuietPlays.{no_base};
+ghost use Rattle.pin_lines.specs.PinLines.{pins_in};
+ghost use Rattle.scan_accounts.specs.ShiftRuns.{ShiftRun};
+ghost use Rattle.scan_accounts.specs.MadeTurns.{MadeTurn, MadePlay, made_play, made_events};
+ghost use Rattle.scan_accounts.specs.Accounts.{Passage, passages, passages_of, account_of};
+ghost use Rattle.scan_accounts.specs.AccountTexts.{account_text, passage_line};
+ghost use Rattle.scan_accounts.specs.PinRuns.{runs_of_pins};
+ghost use Rattle.scan_accounts.specs.AccountExamples.{example_run, instruction_run, one_clock_run, padded_run};
+ghost use Rattle.scan_accounts.specs.AccountExamples.{example_source, scanning_turn, walking_turn, example_play};
+
+use stapl_meaning::laws::programs_are_typed;
+
+/// A play as it was made has the events of the play, turn by turn. So the lines of its turns but for those of their
+/// runs are those of the play without its pins.
+pub fn a_made_play_is_the_play_turn_by_turn()
+    ensures events { (program : Played) (chosen : List ℕ) (n : ℕ) (base : BaseLengths) (far : FarEnd) →
+        made_events (made_play program chosen n base far) ≡ (play program chosen n base far).events }
+    ensures lines { (program : Played) (chosen : List ℕ) (n : ℕ) (base : BaseLengths) (far : FarEnd) →
+        let made = made_play program chosen n base far in
+        events_text false [] made.first ++ flat_map (λ (t : MadeTurn). events_text false [] t.events) made.turns
+        ≡ events_text false [] (play program chosen n base far).events }
+{}
+
+/// Before each turn of a program the controllers stand in a stable state.
+pub fn turns_begin_in_stable_states()
+    ensures { (text : List ℕ) (program : List StmtTree) (chosen : List ℕ) (n : ℕ) (base : BaseLengths) (far : FarEnd) →
+        IsProgram text program → All (λ (t : MadeTurn). is_stable_state t.from ≡ true)
+        (made_play (as_played program) chosen n base far).turns }
+{
+    programs_are_typed();
+}
+
+/// What is said of the runs of a play without base padding are the runs of its text with pins, in their order, whatever
+/// answers its clocks. With any base padding, the account has as many clocks as that text.
+pub fn the_account_of_a_play_is_that_of_its_pins()
+    ensures runs { (text : List ℕ) (program : List StmtTree) (chosen : List ℕ) (n : ℕ) (far : FarEnd)
+        (ending : Ending) → IsProgram text program →
+        map (λ (p : Passage). p.run) (passages (made_play (as_played program) chosen n no_base far))
+        ≡ runs_of_pins (text_of true (play (as_played program) chosen n no_base far).events [] ending) }
+    ensures clocks { (program : Played) (chosen : List ℕ) (n : ℕ) (base : BaseLengths) (far : FarEnd)
+        (ending : Ending) → (account_of (made_play program chosen n base far)).clocks
+        ≡ length (pins_in (text_of true (play program chosen n base far).events [] ending)) }
+{
+    programs_are_typed();
+}
+
+/// A scan of three bits and one of four; a run that goes over the end of a line; a walk through a shift state, which
+/// makes a run of one clock; two runs with a pause between them; and clocks that end in a run.
+pub fn examples_of_runs()
+    ensures scans { runs_of_pins (codes "C 5555515112161551551112241551\nE exit 0\n")
+        ≡ example_run ∷ instruction_run ∷ [] }
+    ensures lines { runs_of_pins (codes "C 555551511\nC 21\nC 61551\n") ≡ example_run ∷ [] }
+    ensures walk { runs_of_pins (codes "C 555551511451\n") ≡ one_clock_run ∷ [] }
+    ensures pause { runs_of_pins (codes "C 555551511415141\n") ≡ one_clock_run ∷ one_clock_run ∷ [] }
+    ensures front { runs_of_pins (codes "C 5555515110\n") ≡ one_clock_run ∷ [] }
+    ensures none { runs_of_pins (codes "C 555551\nP A\n") ≡ [] }
+{}
+
+/// Base padding is taken off the run of a turn that scans, and off no other. The line of a run stands before what else
+/// its turn writes, and the sums before the ending.
+pub fn examples_of_accounts()
+    ensures scan { passages_of example_play.base scanning_turn
+        ≡ record { place = 0; scan = true; run = example_run } ∷ [] }
+    ensures whole { passages_of example_play.base (record scanning_turn { scans = false })
+        ≡ record { place = 0; scan = false; run = padded_run } ∷ [] }
+    ensures line { passage_line example_source (record { place = 2; scan = true; run = instruction_run })
+        ≡ codes "S 3 line 8 IRSCAN 4 in 6 out 1\n" }
+    ensures walk { passages_of example_play.base walking_turn
+        ≡ record { place = 1; scan = false; run = one_clock_run } ∷ [] }
+    ensures text { account_text example_source example_play (Exit (pos 0))
+        ≡ codes "S 1 line 7 DRSCAN 3 in 5 out 2\nS 2 line 8 WALK DR 1 in 0 out 0\nP A\nW 7\n"
+        ++ codes "S turns 3 clocks 26 usec 7 irscans 0 drscans 1\nE exit 0\n" }
+{}
