@@ -6,12 +6,12 @@ use Rattle.stapl_meaning.specs.declared.events.Ending.TheVariants.{Exit}
 use Rattle.scan_accounts.specs.Accounts.{passages_of}
 use Rattle.scan_accounts.specs.AccountTexts.{account_text, passage_line}
 use Rattle.scan_accounts.specs.PinRuns.{runs_of_pins}
-use Rattle.scan_accounts.specs.AccountExamples.{example_run, instruction_run, one_clock_run, padded_run, example_source, scanning_turn, walking_turn, example_play}
+use Rattle.scan_accounts.specs.AccountExamples.{example_run, instruction_run, one_clock_run, padded_run, example_text, scanning_turn, walking_turn, example_play}
 
-pub two_scans : runs_of_pins (codes "C 5555515112161551551112241551\nE exit 0\n") ≡ example_run ∷ instruction_run ∷ []
+pub two_scans : runs_of_pins (codes "C 5555515112141551551112241551\nE exit 0\n") ≡ example_run ∷ instruction_run ∷ []
 two_scans = refl
 
-pub over_lines : runs_of_pins (codes "C 555551511\nC 21\nC 61551\n") ≡ example_run ∷ []
+pub over_lines : runs_of_pins (codes "C 555551511\nC 21\nC 41551\n") ≡ example_run ∷ []
 over_lines = refl
 
 pub one_walk : runs_of_pins (codes "C 555551511451\n") ≡ one_clock_run ∷ []
@@ -32,15 +32,15 @@ a_scan = refl
 pub no_scan : passages_of example_play.base (record scanning_turn { scans = false }) ≡ record { place = 0; scan = false; run = padded_run } ∷ []
 no_scan = refl
 
-pub a_line : passage_line example_source (record { place = 2; scan = true; run = instruction_run }) ≡ codes "S 3 line 8 IRSCAN 4 in 6 out 1\n"
+pub a_line : passage_line example_text (record { place = 2; scan = true; run = instruction_run }) ≡ codes "S 3 line 8 IRSCAN 4 in 6 out 1\n"
 unfolding digits
 a_line = refl
 
 pub a_walk : passages_of example_play.base walking_turn ≡ record { place = 1; scan = false; run = one_clock_run } ∷ []
 a_walk = refl
 
-pub a_text : account_text example_source example_play (Exit (pos 0))
-    ≡ codes "S 1 line 7 DRSCAN 3 in 5 out 2\nS 2 line 8 WALK DR 1 in 0 out 0\nP A\nW 7\n"
+pub a_text : account_text example_text example_play (Exit (pos 0))
+    ≡ codes "S 1 line 7 DRSCAN 3 in 1 out 2\nS 2 line 8 WALK DR 1 in 0 out 0\nP A\nW 7\n"
     ++ codes "S turns 3 clocks 26 usec 7 irscans 0 drscans 1\nE exit 0\n"
 unfolding digits
 a_text = refl

@@ -14,9 +14,9 @@ use Rattle.scan_accounts.specs.AccountTexts.{CutText}
 abbrev pub clock_events : List ℕ → List Event
 clock_events digits = pulses (clocks_of_pins digits)
 
--- the bits 1, 0, 1 that go in, with 0, 1, 0 that come out; and a walk's one clock
+-- the bits 1, 0, 0 that go in, with 0, 1, 0 that come out; an instruction; and one clock of a walk
 abbrev pub example_run : ShiftRun
-example_run = record { ir = false; bits_in = true ∷ false ∷ true ∷ []; bits_out = false ∷ true ∷ false ∷ [] }
+example_run = record { ir = false; bits_in = true ∷ false ∷ false ∷ []; bits_out = false ∷ true ∷ false ∷ [] }
 
 abbrev pub instruction_run : ShiftRun
 instruction_run =
@@ -29,13 +29,13 @@ one_clock_run = record { ir = false; bits_in = false ∷ []; bits_out = false �
 abbrev pub padded_run : ShiftRun
 padded_run = record {
   ir = false;
-  bits_in = true ∷ true ∷ false ∷ true ∷ true ∷ [];
+  bits_in = true ∷ true ∷ false ∷ false ∷ true ∷ [];
   bits_out = false ∷ false ∷ true ∷ false ∷ true ∷ [];
 }
 
 -- pieces that begin in the lines 7, 8 and 8
-abbrev pub example_source : CutText
-example_source = record {
+abbrev pub example_text : CutText
+example_text = record {
   text = [];
   pieces = record { start = 0; end = 9; line = 7; closed = true }
       ∷ record { start = 10; end = 19; line = 8; closed = true }
@@ -43,7 +43,7 @@ example_source = record {
 }
 
 abbrev pub scanning_turn : MadeTurn
-scanning_turn = record { place = 0; scans = true; from = Idle; events = clock_events (codes "511221271551") }
+scanning_turn = record { place = 0; scans = true; from = Idle; events = clock_events (codes "511221071551") }
 
 abbrev pub walking_turn : MadeTurn
 walking_turn =

@@ -25,15 +25,15 @@ pub record CutText : Type 0 where
 -- the line of a run: its piece, counted from 1, the line of that in the text, what it is, how many bits it has, and
 -- these in hexadecimal digits
 abbrev pub passage_line : CutText → Passage → List ℕ
-passage_line source p =
+passage_line cut p =
     labelled (codes "S ") (pos (p.place + 1))
-    ++ labelled (codes " line ") (pos (line_of_index source.text source.pieces p.place))
+    ++ labelled (codes " line ") (pos (line_of_index cut.text cut.pieces p.place))
     ++ codes " " ++ passage_name p.scan p.run.ir ++ labelled (codes " ") (pos (length p.run.bits_in))
     ++ codes " in " ++ all_hex_digits p.run.bits_in ++ codes " out " ++ all_hex_digits p.run.bits_out ++ 10 ∷ []
 
 -- the lines of a turn: those of its runs, and then what else it writes
 abbrev pub turn_lines : CutText → BaseLengths → MadeTurn → List ℕ
-turn_lines source base t = flat_map (passage_line source) (passages_of base t) ++ events_text false [] t.events
+turn_lines cut base t = flat_map (passage_line cut) (passages_of base t) ++ events_text false [] t.events
 
 -- the line of the sums
 abbrev pub account_line : Account → List ℕ
@@ -44,6 +44,6 @@ account_line a =
 
 -- the whole text of a play that has ended
 abbrev pub account_text : CutText → MadePlay → Ending → List ℕ
-account_text source play ending =
-    events_text false [] play.first ++ flat_map (turn_lines source play.base) play.turns
+account_text cut play ending =
+    events_text false [] play.first ++ flat_map (turn_lines cut play.base) play.turns
     ++ account_line (account_of play) ++ ending_line ending

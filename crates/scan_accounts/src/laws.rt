@@ -18,7 +18,7 @@ ghost use Rattle.scan_accounts.specs.Accounts.{Passage, passages, passages_of, a
 ghost use Rattle.scan_accounts.specs.AccountTexts.{account_text, passage_line};
 ghost use Rattle.scan_accounts.specs.PinRuns.{runs_of_pins};
 ghost use Rattle.scan_accounts.specs.AccountExamples.{example_run, instruction_run, one_clock_run, padded_run};
-ghost use Rattle.scan_accounts.specs.AccountExamples.{example_source, scanning_turn, walking_turn, example_play};
+ghost use Rattle.scan_accounts.specs.AccountExamples.{example_text, scanning_turn, walking_turn, example_play};
 
 use stapl_meaning::laws::programs_are_typed;
 
@@ -59,9 +59,9 @@ pub fn the_account_of_a_play_is_that_of_its_pins()
 /// A scan of three bits and one of four; a run that goes over the end of a line; a walk through a shift state, which
 /// makes a run of one clock; two runs with a pause between them; and clocks that end in a run.
 pub fn examples_of_runs()
-    ensures scans { runs_of_pins (codes "C 5555515112161551551112241551\nE exit 0\n")
+    ensures scans { runs_of_pins (codes "C 5555515112141551551112241551\nE exit 0\n")
         ≡ example_run ∷ instruction_run ∷ [] }
-    ensures lines { runs_of_pins (codes "C 555551511\nC 21\nC 61551\n") ≡ example_run ∷ [] }
+    ensures lines { runs_of_pins (codes "C 555551511\nC 21\nC 41551\n") ≡ example_run ∷ [] }
     ensures walk { runs_of_pins (codes "C 555551511451\n") ≡ one_clock_run ∷ [] }
     ensures pause { runs_of_pins (codes "C 555551511415141\n") ≡ one_clock_run ∷ one_clock_run ∷ [] }
     ensures front { runs_of_pins (codes "C 5555515110\n") ≡ one_clock_run ∷ [] }
@@ -75,11 +75,11 @@ pub fn examples_of_accounts()
         ≡ record { place = 0; scan = true; run = example_run } ∷ [] }
     ensures whole { passages_of example_play.base (record scanning_turn { scans = false })
         ≡ record { place = 0; scan = false; run = padded_run } ∷ [] }
-    ensures line { passage_line example_source (record { place = 2; scan = true; run = instruction_run })
+    ensures line { passage_line example_text (record { place = 2; scan = true; run = instruction_run })
         ≡ codes "S 3 line 8 IRSCAN 4 in 6 out 1\n" }
     ensures walk { passages_of example_play.base walking_turn
         ≡ record { place = 1; scan = false; run = one_clock_run } ∷ [] }
-    ensures text { account_text example_source example_play (Exit (pos 0))
-        ≡ codes "S 1 line 7 DRSCAN 3 in 5 out 2\nS 2 line 8 WALK DR 1 in 0 out 0\nP A\nW 7\n"
+    ensures text { account_text example_text example_play (Exit (pos 0))
+        ≡ codes "S 1 line 7 DRSCAN 3 in 1 out 2\nS 2 line 8 WALK DR 1 in 0 out 0\nP A\nW 7\n"
         ++ codes "S turns 3 clocks 26 usec 7 irscans 0 drscans 1\nE exit 0\n" }
 {}
