@@ -1,8 +1,11 @@
 -- Worked runs and accounts.
 use Rattle.std.proofs.Common.{◌≡◌, [], ◌∷◌, ◌++◌, true, false, refl}
-use Rattle.std.specs.Prelude.{codes, pos}
+use Rattle.std.specs.Prelude.{ℕ, List, None, codes, pos}
+use Rattle.stapl_lexer.specs.declared.terminal.Register.{Register}
+use Rattle.stapl_syntax.specs.Trees.{ExprTree, ArrayTree, if_then, scan, state_list}
 use Rattle.std.specs.Fmt.{digits}
 use Rattle.stapl_meaning.specs.declared.events.Ending.TheVariants.{Exit}
+use Rattle.scan_accounts.specs.MadeTurns.{does_scan}
 use Rattle.scan_accounts.specs.Accounts.{passages_of}
 use Rattle.scan_accounts.specs.AccountTexts.{account_text, passage_line}
 use Rattle.scan_accounts.specs.PinRuns.{runs_of_pins}
@@ -44,3 +47,9 @@ pub a_text : account_text example_text example_play (Exit (pos 0))
     ++ codes "S turns 3 clocks 26 usec 7 irscans 0 drscans 1\nE exit 0\n"
 unfolding digits
 a_text = refl
+
+pub scans_under_if : (register : Register) (e count : ExprTree) (source : ArrayTree) → does_scan (if_then e (if_then e (scan register count source None None))) ≡ true
+scans_under_if register e count source = refl
+
+pub states_do_not : (e : ExprTree) (states : List ℕ) → does_scan (if_then e (state_list states)) ≡ false
+states_do_not e states = refl

@@ -7,3 +7,6 @@ pub mod PinRuns
 pub mod OtherLines
 pub mod StableStarts
 pub mod Examples
+pub mod ScanRuns
+pub mod ScanPassages
+pub mod SameAccounts

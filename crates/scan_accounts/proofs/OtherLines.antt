@@ -24,7 +24,7 @@ bytes_are (Export key value ∷ es) = ap (λ t. event_line (Export key value) ++
 bytes_are (Usec n ∷ es) = ap (λ t. event_line (Usec n) ++ t) (bytes_are es)
 bytes_are (Hertz n ∷ es) = ap (λ t. event_line (Hertz n) ++ t) (bytes_are es)
 
-text_is : (es : List Event) → events_text false [] es ≡ flat_map event_line es
+pub text_is : (es : List Event) → events_text false [] es ≡ flat_map event_line es
 text_is es =
     ap (λ d. bytes_of false [] es ++ pin_line d) (none_waits es) ∙ append-nil (bytes_of false [] es) ∙ bytes_are es
 

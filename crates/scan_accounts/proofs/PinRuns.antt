@@ -36,7 +36,7 @@ use Rattle.scan_accounts.proofs.WalkedTurns.{clocks_both, tms_among, walk_with_z
 use Rattle.scan_accounts.proofs.StableTurns.{HasStableStops, StandsStable, turn_stands, beginning_stands, beginning_makes_none, no_events}
 
 -- in a stable state no register shifts
-stable_rests : (at : Tap) → is_stable_state at ≡ true → shifts at ≡ false
+pub stable_rests : (at : Tap) → is_stable_state at ≡ true → shifts at ≡ false
 stable_rests Reset e = refl
 stable_rests Idle e = refl
 stable_rests DrPause e = refl

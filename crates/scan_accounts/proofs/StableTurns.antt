@@ -3,6 +3,7 @@ use Rattle.std.proofs.Common.{◌≡◌, ℕ, ◌+◌, Bool, true, false, cond, 
 use Rattle.std.specs.Prelude.{IfSome}
 use Rattle.std.proofs.lemmas.Bool.{false≢true}
 use Rattle.std.proofs.lemmas.List.Elements.{All-head, All-tail}
+use Rattle.std.specs.Option.{option_map_or}
 use Rattle.stapl_lexer.specs.declared.terminal.Padding.{Padding}
 use Rattle.stapl_lexer.specs.declared.terminal.Padding.TheVariants as paddings
 use Rattle.stapl_syntax.specs.Rules.{stops_unstable}
@@ -23,8 +24,8 @@ use Rattle.stapl_meaning.specs.Plays.{set_up, beginning}
 use Rattle.stapl_meaning.specs.Typed.{IsTyped, IsTypedPreset}
 use Rattle.stapl_meaning.proofs.Walks.{WalkRule, plain_rule, Fits, KeptTurned}
 use Rattle.stapl_meaning.proofs.KeptTurns.{turn_kept, beginning_kept}
-use Rattle.scan_accounts.specs.MadeTurns.{happened_events}
-use Rattle.scan_accounts.proofs.StableRows.{DidOk, Has, stable_after, EndStable, AnyScan, RowsEnd, rows_end, NoDeeds, NoScan, preset_makes_none}
+use Rattle.scan_accounts.specs.MadeTurns.{does_scan, scans_at, happened_events}
+use Rattle.scan_accounts.proofs.StableRows.{DidOk, Has, stable_after, EndStable, RowsEnd, rows_end, NoDeeds, NoScan, preset_makes_none}
 
 -- deeds one after another
 
@@ -45,7 +46,7 @@ deeds_lead (Goes to ∷ ds) k = deeds_lead ds (deed_chain k (Goes to))
 deeds_lead (Stays n ∷ ds) k = deeds_lead ds (deed_chain k (Stays n))
 deeds_lead (Scans scan ∷ ds) k = deeds_lead ds (deed_chain k (Scans scan))
 
-deeds_end : (ds : List Deed) (k : Chain) → EndStable ds → is_stable_state k.tap ≡ true → is_stable_state (deeds_chain k ds).tap ≡ true
+pub deeds_end : (ds : List Deed) (k : Chain) → EndStable ds → is_stable_state k.tap ≡ true → is_stable_state (deeds_chain k ds).tap ≡ true
 deeds_end ds k h e = deeds_lead ds k ∙ ap (λ b. stable_after b ds) e ∙ h
 
 -- ---- what holds of the deeds of a turn, before each of its scans and after them, and of its scans
@@ -112,12 +113,12 @@ module _ (P : List Deed → Type 0) (J : BoardScan → Type 0) (none : P []) (bo
   of_carried scope b s go h more = of_values scope b s (values_of scope.look s.store.variables (operands scope b)) go h more
 
 -- each turn of a program ends in a stable state, if its last scan does
-abbrev pub TurnEnds : Turned → Type 0
-TurnEnds t = TurnOk EndStable AnyScan t
+abbrev pub TurnEnds : (BoardScan → Type 0) → Turned → Type 0
+TurnEnds J t = TurnOk EndStable J t
 
-of_rows : (scope : Scope) (bs : List BodyTree) (s : State) → RowsEnd scope bs → TurnEnds (rows_done scope bs s)
-of_rows scope [] s h = refl
-of_rows scope (b ∷ bs) s h = of_carried EndStable AnyScan refl both_end scope b s (rows_done scope bs) h.0 (λ t. of_rows scope bs t h.1)
+of_rows : (J : BoardScan → Type 0) (scope : Scope) (bs : List BodyTree) (s : State) → RowsEnd J scope bs → TurnEnds J (rows_done scope bs s)
+of_rows J scope [] s h = refl
+of_rows J scope (b ∷ bs) s h = of_carried EndStable J refl both_end scope b s (rows_done scope bs) h.0 (λ t. of_rows J scope bs t h.1)
 
 -- a statement outside procedures has no state in which anything stays
 outer_is_stable : (b : BodyTree) → is_outer b ≡ true → stops_unstable b ≡ false
@@ -134,14 +135,21 @@ module _ (program : Played) (typed : IsTyped program) where
   statement_is_stable i st at true e = outer_is_stable st.body e
   statement_is_stable i st at false e = (typed.statements i st at e).stable
 
-  turn_ends_by : (i : ℕ) (s : State) (o : Option StmtTree) → slice_get program.pieces i ≡ o → TurnEnds (turn_of (scope_at program i) (i + 1) s o)
+  -- only the turn of a statement that scans has a scan
+  abbrev pub Scanned : ℕ → BoardScan → Type 0
+  Scanned i job = scans_at program i ≡ true
+
+  turn_ends_by : (i : ℕ) (s : State) (o : Option StmtTree) → slice_get program.pieces i ≡ o →
+      TurnEnds (λ job. option_map_or (λ st. does_scan st.body) o false ≡ true) (turn_of (scope_at program i) (i + 1) s o)
   turn_ends_by i s None at = refl
   turn_ends_by i s (Some st) at =
       let scope : Scope = scope_at program i in
-      of_piece EndStable AnyScan refl both_end (i + 1) (done scope s st.body)
-      (of_rows scope (rows st.body) s (rows_end scope st.body (statement_is_stable i st at (is_outer st.body) refl)))
+      let J : BoardScan → Type 0 = λ job. does_scan st.body ≡ true in
+      of_piece EndStable J refl both_end (i + 1) (done scope s st.body)
+      (of_rows J scope (rows st.body) s
+      (rows_end J scope st.body (statement_is_stable i st at (is_outer st.body) refl) (λ e job. e)))
 
-  pub turn_ends : (i : ℕ) (s : State) → TurnEnds (turn program i s)
+  pub turn_ends : (i : ℕ) (s : State) → TurnEnds (Scanned i) (turn program i s)
   turn_ends i s = turn_ends_by i s (slice_get program.pieces i) refl
 
 -- the beginning of a play makes no deeds
@@ -175,9 +183,16 @@ no_events (Broken ds f s) k h = ap (deeds_events k) h
 no_events (Scanning ds job rest) k h = absurd h.1
 no_events (NoTurn ds) k h = ap (deeds_events k) h
 
+pub none_end : (J : BoardScan → Type 0) (t : Turned) → TurnMakesNone t → TurnEnds J t
+none_end J (Leads ds place s) h = ap (stable_after true) h
+none_end J (Over ds ending s) h = ap (stable_after true) h
+none_end J (Broken ds f s) h = ap (stable_after true) h
+none_end J (Scanning ds job rest) h = absurd h.1
+none_end J (NoTurn ds) h = ap (stable_after true) h
+
 -- ---- scans end in a stable state, too
 
-abbrev stopping : WalkRule
+abbrev pub stopping : WalkRule
 stopping = record plain_rule {
   IrOk = λ x. is_stable_state x.stop ≡ true;
   DrOk = λ x. is_stable_state x.stop ≡ true;
@@ -194,7 +209,7 @@ stopping = record plain_rule {
 abbrev pub HasStableStops : State → Type 0
 HasStableStops s = Fits stopping s
 
-pads_stop : (which : Padding) (bits : List Bool) (s : State) → HasStableStops s → HasStableStops (with_padding which bits s)
+pub pads_stop : (which : Padding) (bits : List Bool) (s : State) → HasStableStops s → HasStableStops (with_padding which bits s)
 pads_stop paddings.PreData bits s h = h
 pads_stop paddings.PostData bits s h = h
 pads_stop paddings.PreInstruction bits s h = h
@@ -215,32 +230,25 @@ if_stands : (b : Bool) (h : Happened) → StandsStable h → StandsStable (cond 
 if_stands true h p = p
 if_stands false h p = tt
 
-stands : (t : Turned) (k : Chain) → TurnEnds t → KeptTurned stopping t → is_stable_state k.tap ≡ true → StandsStable (happens k t)
-stands (Leads ds place s) k h kept e = (deeds_end ds k h e, kept.1)
-stands (Over ds ending s) k h kept e = tt
-stands (Broken ds f s) k h kept e = tt
-stands (Scanning ds job rest) k h kept e =
+stands : (J : BoardScan → Type 0) (t : Turned) (k : Chain) → TurnEnds J t → KeptTurned stopping t → is_stable_state k.tap ≡ true → StandsStable (happens k t)
+stands J (Leads ds place s) k h kept e = (deeds_end ds k h e, kept.1)
+stands J (Over ds ending s) k h kept e = tt
+stands J (Broken ds f s) k h kept e = tt
+stands J (Scanning ds job rest) k h kept e =
     let l : Chain = deeds_chain k ds in
     let l1 : Chain = deed_chain l (Scans job) in
     let bits : List Bool = captured_on l job in
     more_stand (deeds_events k ds) (scanned_on l job (λ bits c. happens c (rest bits)))
     (if_stands (is_stable_state l.tap) (with_events (deed_events l (Scans job)) (happens l1 (rest bits)))
-    (more_stand (deed_events l (Scans job)) (happens l1 (rest bits)) (stands (rest bits) l1 (h.2 bits) (kept.2 bits) kept.1)))
-stands (NoTurn ds) k h kept e = tt
+    (more_stand (deed_events l (Scans job)) (happens l1 (rest bits)) (stands J (rest bits) l1 (h.2 bits) (kept.2 bits) kept.1)))
+stands J (NoTurn ds) k h kept e = tt
 
 module _ (program : Played) (typed : IsTyped program) where
   pub turn_stands : (i : ℕ) (s : State) (k : Chain) → HasStableStops s → is_stable_state k.tap ≡ true → StandsStable (happens k (turn program i s))
   turn_stands i s k fits e =
-      stands (turn program i s) k (turn_ends program typed i s) (turn_kept stopping pads_stop (λ p ps h. tt) program i s fits) e
-
-  none_end : (t : Turned) → TurnMakesNone t → TurnEnds t
-  none_end (Leads ds place s) h = ap (stable_after true) h
-  none_end (Over ds ending s) h = ap (stable_after true) h
-  none_end (Broken ds f s) h = ap (stable_after true) h
-  none_end (Scanning ds job rest) h = absurd h.1
-  none_end (NoTurn ds) h = ap (stable_after true) h
+      stands (Scanned program typed i) (turn program i s) k (turn_ends program typed i s) (turn_kept stopping pads_stop (λ p ps h. tt) program i s fits) e
 
   pub beginning_stands : (s : State) (k : Chain) → HasStableStops s → is_stable_state k.tap ≡ true → StandsStable (happens k (beginning program s))
   beginning_stands s k fits e =
-      stands (beginning program s) k (none_end (beginning program s) (beginning_makes_none program s typed))
+      stands NoScan (beginning program s) k (none_end NoScan (beginning program s) (beginning_makes_none program s typed))
       (beginning_kept stopping pads_stop (λ p ps h. tt) program s fits) e

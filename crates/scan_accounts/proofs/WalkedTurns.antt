@@ -38,7 +38,7 @@ pub clocks_of_pulses : (ks : List Clock) → clocks_among (pulses ks) ≡ ks
 clocks_of_pulses [] = refl
 clocks_of_pulses (k ∷ ks) = ap (λ t. k ∷ t) (clocks_of_pulses ks)
 
-walk_both : (at : Tap) (ms ns : List Bool) → walk at (ms ++ ns) ≡ walk (walk at ms) ns
+pub walk_both : (at : Tap) (ms ns : List Bool) → walk at (ms ++ ns) ≡ walk (walk at ms) ns
 walk_both at [] ns = refl
 walk_both at (m ∷ ms) ns = walk_both (next_of at m) ms ns
 
@@ -53,7 +53,7 @@ walk_events at xs ys =
 
 -- the TMS values of inputs, which are those of the clocks that they make
 
-abbrev input_tms : List Input → List Bool
+abbrev pub input_tms : List Input → List Bool
 input_tms is = map (λ (i : Input). i.tms) is
 
 tms_of_clocks : (cs : List Card) (is : List Input) → tms_of (clocks_of cs is) ≡ input_tms is
@@ -71,7 +71,7 @@ tms_of_far (Heard bs) is = tms_of_heard bs is
 pub tms_of_pulses : (far : FarEnd) (is : List Input) → tms_among (pulses (far_clocks far is)) ≡ input_tms is
 tms_of_pulses far is = ap tms_of (clocks_of_pulses (far_clocks far is)) ∙ tms_of_far far is
 
-tms_with_zero : (ms : List Bool) → input_tms (with_zero ms) ≡ ms
+pub tms_with_zero : (ms : List Bool) → input_tms (with_zero ms) ≡ ms
 tms_with_zero [] = refl
 tms_with_zero (m ∷ ms) = ap (λ t. m ∷ t) (tms_with_zero ms)
 
@@ -80,7 +80,7 @@ walk_with_zero at far ms = ap (walk at) (tms_of_pulses far (with_zero ms) ∙ tm
 
 -- a stay
 
-stays : (at : Tap) (n : ℕ) → is_stable_state at ≡ true → walk at (replicate n (rest_tms at)) ≡ at
+pub stays : (at : Tap) (n : ℕ) → is_stable_state at ≡ true → walk at (replicate n (rest_tms at)) ≡ at
 stays at zero e = refl
 stays at (suc n) e = ap (λ t. walk t (replicate n (rest_tms at))) (rests at e) ∙ stays at n e
 
@@ -94,17 +94,17 @@ leaves_shift : (ir : Bool) → next_of (shift_state ir) true ≡ exit_state ir
 leaves_shift true = refl
 leaves_shift false = refl
 
-pauses : (ir : Bool) → next_of (exit_state ir) false ≡ pause_state ir
+pub pauses : (ir : Bool) → next_of (exit_state ir) false ≡ pause_state ir
 pauses true = refl
 pauses false = refl
 
-shifted : (ir : Bool) (bits : List Bool) → 0 < length bits → walk (shift_state ir) (input_tms (shift_inputs bits)) ≡ exit_state ir
+pub shifted : (ir : Bool) (bits : List Bool) → 0 < length bits → walk (shift_state ir) (input_tms (shift_inputs bits)) ≡ exit_state ir
 shifted ir [] some = absurd (omega (arith, some))
 shifted ir (b ∷ []) some = leaves_shift ir
 shifted ir (b ∷ c ∷ bs) some =
     ap (λ t. walk t (input_tms (shift_inputs (c ∷ bs)))) (still_shifts ir) ∙ shifted ir (c ∷ bs) (omega arith)
 
-some_padded : (s : BoardScan) → 0 < length s.bits → 0 < length (scan_bits s)
+pub some_padded : (s : BoardScan) → 0 < length s.bits → 0 < length (scan_bits s)
 some_padded s some =
     let p = s.paddings in
     let bits : List Bool = program_bits p s.bits in
@@ -140,7 +140,7 @@ scan_walks k scan e some =
 
 -- deeds
 
-clock_not_said : (e : Event) → is_no_clock e ≡ true → clocks_among (e ∷ []) ≡ []
+pub clock_not_said : (e : Event) → is_no_clock e ≡ true → clocks_among (e ∷ []) ≡ []
 clock_not_said (events.Clock tms tdi tdo) h = absurd (false≢true h)
 clock_not_said (Print bytes) h = refl
 clock_not_said (Export key value) h = refl

@@ -1,8 +1,10 @@
 -- The account of a play: what each of its turns did at the pins, and how much the play did in all. What it says is this
 -- profile's.
-use Rattle.std.specs.Prelude.{ℕ, ◌+◌, ◌-◌, ◌&&◌, Bool, true, false, List, length, map, take, drop, count_by, flat_map}
+use Rattle.std.specs.Prelude.{◌≡◌, ℕ, ◌+◌, ◌-◌, ◌&&◌, Bool, true, false, List, [], ◌∷◌, length, map, take, drop, count_by, flat_map}
 use Rattle.std.specs.Bool.{beq}
-use Rattle.dev_card.specs.Padding.{BaseLengths, base_pre_of, base_post_of}
+use Rattle.dev_card.specs.Padding.{BaseLengths, base_pre_of, base_post_of, program_bits}
+use Rattle.dev_card.specs.Scans.{BoardScan}
+use Rattle.stapl_meaning.specs.Deeds.{Scans, Chain, deed_events, captured_on}
 use Rattle.scan_accounts.specs.ShiftRuns.{ShiftRun, shift_runs}
 use Rattle.scan_accounts.specs.MadeTurns.{MadeTurn, MadePlay, made_events, clocks_among, usec_among}
 
@@ -61,3 +63,13 @@ account_of play = record {
   ir_scans = scans_among true (passages play);
   dr_scans = scans_among false (passages play);
 }
+
+-- A scan on a chain has one run: true for the instruction registers as the scan is. Without base padding its bits in
+-- are those that the program shifts, and the bits out at the places of the data are what the scan captures.
+pub record HasScanRun (k : Chain) (scan : BoardScan) : Type 0 where
+  pub run : ShiftRun
+  pub only : shift_runs k.tap (clocks_among (deed_events k (Scans scan))) ≡ run ∷ []
+  pub register : run.ir ≡ scan.ir
+  pub shifted : (unpadded k.base run).bits_in ≡ program_bits scan.paddings scan.bits
+  pub captured : take (length scan.bits) (drop (length scan.paddings.pre) (unpadded k.base run).bits_out)
+      ≡ captured_on k scan

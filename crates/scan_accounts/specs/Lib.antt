@@ -4,3 +4,4 @@ pub mod Accounts
 pub mod AccountTexts
 pub mod PinRuns
 pub mod AccountExamples
+pub mod SameAccounts

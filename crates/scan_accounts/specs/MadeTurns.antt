@@ -22,6 +22,10 @@ does_scan (scan register count source to compare) = true
 does_scan (if_then e body) = does_scan body
 does_scan _ = false
 
+-- the statement at this place does
+abbrev pub scans_at : Played → ℕ → Bool
+scans_at program i = option_map_or (λ st. does_scan st.body) (slice_get program.pieces i) false
+
 -- a turn that was made: the place of its piece, counted from 0, whether its statement scans, the state of the
 -- controllers before it, and its events
 pub record MadeTurn : Type 0 where
@@ -41,7 +45,7 @@ happened_events (Lacks events) = events
 abbrev pub made_turn : Played → ℕ → State → Chain → MadeTurn
 made_turn program i s k = record {
   place = i;
-  scans = option_map_or (λ st. does_scan st.body) (slice_get program.pieces i) false;
+  scans = scans_at program i;
   from = k.tap;
   events = happened_events (happens k (turn program i s));
 }

@@ -1,20 +1,27 @@
 //! Laws of the definitions.
-ghost use Rattle.std.specs.Prelude.{◌≡◌, ◌++◌, ℕ, List, [], ◌∷◌, All, true, false, flat_map, length, map, pos, codes};
-ghost use Rattle.dev_card.specs.FarEnds.{FarEnd};
-ghost use Rattle.dev_card.specs.Padding.{BaseLengths};
+ghost use Rattle.std.specs.Prelude.{◌≡◌, ◌<◌, ◌≤◌, ◌++◌, None, Some, ℕ, List, [], ◌∷◌, All, true, false, flat_map, length, map, pos, codes};
+ghost use Rattle.dev_card.specs.declared.desc.Desc.{Desc};
+ghost use Rattle.dev_card.specs.Descriptions.{IsGood};
+ghost use Rattle.dev_card.specs.FarEnds.{FarEnd, Told};
+ghost use Rattle.dev_card.specs.Padding.{BaseLengths, base_around, Neighbours, in_run, base_lengths};
+ghost use Rattle.dev_card.specs.Scans.{BoardScan};
 ghost use Rattle.tap_states.specs.Tap.{is_stable_state};
-ghost use Rattle.stapl_syntax.specs.Trees.{StmtTree};
+ghost use Rattle.stapl_lexer.specs.declared.terminal.Register.{Register};
+ghost use Rattle.stapl_syntax.specs.Trees.{StmtTree, ExprTree, ArrayTree, if_then, scan, state_list};
 ghost use Rattle.stapl_syntax.specs.Programs.{IsProgram};
 ghost use Rattle.stapl_meaning.specs.declared.events.Ending.{Ending};
 ghost use Rattle.stapl_meaning.specs.declared.events.Ending.TheVariants.{Exit};
 ghost use Rattle.stapl_meaning.specs.Scopes.{Played, as_played};
 ghost use Rattle.stapl_meaning.specs.Plays.{play};
 ghost use Rattle.stapl_meaning.specs.Texts.{events_text, text_of};
-ghost use Rattle.padded_plays.specs.QuietPlays.{no_base};
+ghost use Rattle.stapl_meaning.specs.Deeds.{Chain};
+ghost use Rattle.padded_plays.specs.PaddedRuns.{fresh_board};
+ghost use Rattle.padded_plays.specs.QuietPlays.{no_base, IsQuietPlay};
 ghost use Rattle.pin_lines.specs.PinLines.{pins_in};
 ghost use Rattle.scan_accounts.specs.ShiftRuns.{ShiftRun};
-ghost use Rattle.scan_accounts.specs.MadeTurns.{MadeTurn, MadePlay, made_play, made_events};
-ghost use Rattle.scan_accounts.specs.Accounts.{Passage, passages, passages_of, account_of};
+ghost use Rattle.scan_accounts.specs.MadeTurns.{does_scan, MadeTurn, MadePlay, made_play, made_events};
+ghost use Rattle.scan_accounts.specs.Accounts.{Passage, passages, passages_of, account_of, HasScanRun};
+ghost use Rattle.scan_accounts.specs.SameAccounts.{IsSameAccount};
 ghost use Rattle.scan_accounts.specs.AccountTexts.{account_text, passage_line};
 ghost use Rattle.scan_accounts.specs.PinRuns.{runs_of_pins};
 ghost use Rattle.scan_accounts.specs.AccountExamples.{example_run, instruction_run, one_clock_run, padded_run};
@@ -56,6 +63,31 @@ pub fn the_account_of_a_play_is_that_of_its_pins()
     programs_are_typed();
 }
 
+/// The clocks of a scan, from a stable state to one, have one run. Its bits in are those that the program shifts, with
+/// the program's paddings, and those of its bits out at the places of the data are what the scan captures.
+pub fn a_scan_has_one_run()
+    ensures { (k : Chain) (scan : BoardScan) → is_stable_state k.tap ≡ true → is_stable_state scan.stop ≡ true →
+        0 < length scan.bits → HasScanRun k scan }
+{}
+
+/// A play that is quiet on the devices of a run alone has the same account on the whole board, with base padding for
+/// the run: line by line, but for the count of clocks. This is said of the lists of devices before, in and after the
+/// run, and of a board and the places of the run in it.
+pub fn a_quiet_play_has_the_same_account_at_each_place()
+    ensures lists { (text : List ℕ) (program : List StmtTree) (chosen : List ℕ) (n : ℕ) (before run after : List Desc) →
+        IsProgram text program → All IsGood (before ++ (run ++ after)) → 0 < length run →
+        let p = as_played program in IsQuietPlay p chosen n run →
+        IsSameAccount (made_play p chosen n (base_around before after) (Told (fresh_board (before ++ (run ++ after)))))
+        (made_play p chosen n no_base (Told (fresh_board run))) }
+    ensures places { (text : List ℕ) (program : List StmtTree) (chosen : List ℕ) (n : ℕ) (devices : List Desc)
+        (run : Neighbours) → IsProgram text program → All IsGood devices → 1 ≤ run.first → run.first ≤ run.last →
+        run.last ≤ length devices → let p = as_played program in IsQuietPlay p chosen n (in_run run devices) →
+        IsSameAccount (made_play p chosen n (base_lengths devices (Some run)) (Told (fresh_board devices)))
+        (made_play p chosen n no_base (Told (fresh_board (in_run run devices)))) }
+{
+    programs_are_typed();
+}
+
 /// A scan of three bits and one of four; a run that goes over the end of a line; a walk through a shift state, which
 /// makes a run of one clock; two runs with a pause between them; and clocks that end in a run.
 pub fn examples_of_runs()
@@ -69,7 +101,7 @@ pub fn examples_of_runs()
 {}
 
 /// Base padding is taken off the run of a turn that scans, and off no other. The line of a run stands before what else
-/// its turn writes, and the sums before the ending.
+/// its turn writes, and the sums before the ending. An IF over a scan scans, and a STATE does not.
 pub fn examples_of_accounts()
     ensures scan { passages_of example_play.base scanning_turn
         ≡ record { place = 0; scan = true; run = example_run } ∷ [] }
@@ -77,6 +109,9 @@ pub fn examples_of_accounts()
         ≡ record { place = 0; scan = false; run = padded_run } ∷ [] }
     ensures line { passage_line example_text (record { place = 2; scan = true; run = instruction_run })
         ≡ codes "S 3 line 8 IRSCAN 4 in 6 out 1\n" }
+    ensures under_if { (register : Register) (e count : ExprTree) (source : ArrayTree) →
+        does_scan (if_then e (if_then e (scan register count source None None))) ≡ true }
+    ensures states { (e : ExprTree) (states : List ℕ) → does_scan (if_then e (state_list states)) ≡ false }
     ensures walk { passages_of example_play.base walking_turn
         ≡ record { place = 1; scan = false; run = one_clock_run } ∷ [] }
     ensures text { account_text example_text example_play (Exit (pos 0))
