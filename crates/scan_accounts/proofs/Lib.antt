@@ -10,3 +10,5 @@ pub mod Examples
 pub mod ScanRuns
 pub mod ScanPassages
 pub mod SameAccounts
+pub mod LongestRuns
+pub mod TurnByTurn

@@ -5,3 +5,5 @@ pub mod AccountTexts
 pub mod PinRuns
 pub mod AccountExamples
 pub mod SameAccounts
+pub mod LongestRuns
+pub mod TurnByTurn

@@ -1,11 +1,14 @@
 //! Laws of the definitions.
-ghost use Rattle.std.specs.Prelude.{◌≡◌, ◌<◌, ◌≤◌, ◌++◌, None, Some, ℕ, List, [], ◌∷◌, All, true, false, flat_map, length, map, pos, codes};
+ghost use Rattle.std.specs.Prelude.{◌≡◌, ◌<◌, ◌≤◌, ℕ, pos, true, false, None, Some};
+ghost use Rattle.std.specs.Prelude.{List, [], ◌∷◌, ◌++◌, All, flat_map, length, map, codes};
 ghost use Rattle.dev_card.specs.declared.desc.Desc.{Desc};
 ghost use Rattle.dev_card.specs.Descriptions.{IsGood};
 ghost use Rattle.dev_card.specs.FarEnds.{FarEnd, Told};
 ghost use Rattle.dev_card.specs.Padding.{BaseLengths, base_around, Neighbours, in_run, base_lengths};
 ghost use Rattle.dev_card.specs.Scans.{BoardScan};
+ghost use Rattle.tap_states.specs.declared.Tap.{Tap};
 ghost use Rattle.tap_states.specs.Tap.{is_stable_state};
+ghost use Rattle.dev_card.specs.Board.{Clock};
 ghost use Rattle.stapl_lexer.specs.declared.terminal.Register.{Register};
 ghost use Rattle.stapl_syntax.specs.Trees.{StmtTree, ExprTree, ArrayTree, if_then, scan, state_list};
 ghost use Rattle.stapl_syntax.specs.Programs.{IsProgram};
@@ -18,8 +21,10 @@ ghost use Rattle.stapl_meaning.specs.Deeds.{Chain};
 ghost use Rattle.padded_plays.specs.PaddedRuns.{fresh_board};
 ghost use Rattle.padded_plays.specs.QuietPlays.{no_base, IsQuietPlay};
 ghost use Rattle.pin_lines.specs.PinLines.{pins_in};
-ghost use Rattle.scan_accounts.specs.ShiftRuns.{ShiftRun};
-ghost use Rattle.scan_accounts.specs.MadeTurns.{does_scan, MadeTurn, MadePlay, made_play, made_events};
+ghost use Rattle.scan_accounts.specs.ShiftRuns.{shift_runs};
+ghost use Rattle.scan_accounts.specs.LongestRuns.{AreLongestRuns};
+ghost use Rattle.scan_accounts.specs.MadeTurns.{does_scan, MadeTurn, made_play, made_events};
+ghost use Rattle.scan_accounts.specs.TurnByTurn.{AreNextTurns};
 ghost use Rattle.scan_accounts.specs.Accounts.{Passage, passages, passages_of, account_of, HasScanRun};
 ghost use Rattle.scan_accounts.specs.SameAccounts.{IsSameAccount};
 ghost use Rattle.scan_accounts.specs.AccountTexts.{account_text, passage_line};
@@ -30,7 +35,8 @@ ghost use Rattle.scan_accounts.specs.AccountExamples.{example_text, scanning_tur
 use stapl_meaning::laws::programs_are_typed;
 
 /// A play as it was made has the events of the play, turn by turn. So the lines of its turns but for those of their
-/// runs are those of the play without its pins.
+/// runs are those of the play without its pins. After so many turns the play goes on at the place of the next turn,
+/// from its state of the controllers, and with one turn more it has the events of that turn, too.
 pub fn a_made_play_is_the_play_turn_by_turn()
     ensures events { (program : Played) (chosen : List ℕ) (n : ℕ) (base : BaseLengths) (far : FarEnd) →
         made_events (made_play program chosen n base far) ≡ (play program chosen n base far).events }
@@ -38,6 +44,13 @@ pub fn a_made_play_is_the_play_turn_by_turn()
         let made = made_play program chosen n base far in
         events_text false [] made.first ++ flat_map (λ (t : MadeTurn). events_text false [] t.events) made.turns
         ≡ events_text false [] (play program chosen n base far).events }
+    ensures turns { (program : Played) (chosen : List ℕ) (n : ℕ) (base : BaseLengths) (far : FarEnd) →
+        AreNextTurns (λ m. play program chosen m base far) (made_play program chosen n base far).turns }
+{}
+
+/// The runs of clocks are the longest parts of them at which the same registers shift, in order, and all of these.
+pub fn runs_are_the_longest_parts()
+    ensures { (at : Tap) (clocks : List Clock) → AreLongestRuns (shift_runs at clocks) at clocks }
 {}
 
 /// Before each turn of a program the controllers stand in a stable state.
