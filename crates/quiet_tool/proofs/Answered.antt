@@ -1,5 +1,5 @@
 -- Words whose files are held have an answer, whatever they hold.
-use Rattle.std.proofs.Common.{◌≡◌, ◌∙◌, ◌⊎◌, inl, inr, ℕ, Bool, true, false, List, codes, Option, refl, sym}
+use Rattle.std.proofs.Common.{◌≡◌, ◌∙◌, ◌⊎◌, inl, inr, ℕ, Bool, true, false, List, [], ◌∷◌, ◌++◌, codes, Option, refl, sym}
 use Rattle.stapl_lexer.specs.declared.piece.Piece.{Piece}
 use Rattle.stapl_lexer.specs.declared.reason.Reason.{Reason}
 use Rattle.stapl_lexer.specs.Pieces.{IsCut}
@@ -22,7 +22,6 @@ use Rattle.board_text.specs.declared.reason.BoardReason.{BoardReason}
 use Rattle.board_text.specs.Boards.{IsBoard, IsFirstFault}
 use Rattle.named_files.specs.Texts.{refusal_line, board_refusal_line, usage_line}
 use Rattle.play_words.specs.declared.requests.PlayRequest.{PlayRequest}
-use Rattle.play_words.specs.declared.requests.FilePlay.{FilePlay}
 use Rattle.code_plays.specs.Plays.{has_place}
 use Rattle.code_plays.specs.CodePlays.{HasEnding}
 use Rattle.play_tool.specs.Alone.{alone_request}
@@ -32,9 +31,13 @@ use Rattle.play_tool.proofs.ProgramLemmas.{say_same}
 use Rattle.play_tool.proofs.AnsweredLemmas.{comes_to_an_end}
 use Rattle.quiet_tool.specs.declared.status.QuietStatus.{QuietStatus}
 use Rattle.quiet_tool.specs.declared.status.QuietStatus.TheVariants as statuses
-use Rattle.quiet_tool.specs.Texts.{quiet_text, unquiet_line, line_of_piece}
-use Rattle.quiet_tool.specs.Words.{AskAbout, HasUsage}
-use Rattle.quiet_tool.specs.Answers.{run_of, VerdictAnswer, quiet, unquiet, ChoiceAnswer, judged, bad_place, ActionAnswer, TextAnswer, refused, accepted, RequestAnswer, board_refused, board_read, WordsAnswer, usage, asked}
+use Rattle.quiet_tool.specs.declared.words.Actions.{Actions}
+use Rattle.quiet_tool.specs.declared.words.Actions.TheVariants.{Named, Each}
+use Rattle.quiet_tool.specs.declared.words.Question.{Question}
+use Rattle.quiet_tool.specs.Statuses.{first_unquiet}
+use Rattle.quiet_tool.specs.Texts.{quiet_text, unquiet_line, action_text, line_of_piece}
+use Rattle.quiet_tool.specs.Words.{Ask, HasUsage}
+use Rattle.quiet_tool.specs.Answers.{run_of, VerdictAnswer, quiet, unquiet, ChoiceAnswer, judged, bad_place, ActionAnswer, with_action, actions_of, ActionsAnswer, no_more, one_more, ProgramAnswer, TextAnswer, refused, accepted, RequestAnswer, board_refused, board_read, QuestionAnswer, WordsAnswer, usage, asked}
 use Rattle.quiet_tool.specs.Answers as answers
 use Rattle.quiet_tool.proofs.WordLemmas.{asked_or_refused}
 
@@ -85,9 +88,10 @@ choice_answered bytes pieces cut program n run (chosen procedures) false ends = 
 choice_answered bytes pieces cut program n run (chosen procedures) true ends =
     let v = verdict_answered bytes pieces cut program procedures n run (ends procedures refl) in (v.0, v.1, judged procedures v.0 v.1 refl refl v.2)
 
-module _ (known : Known) (request : PlayRequest) where
-  action_answered : (devices : List Desc) (bytes : List ℕ) (program : List StmtTree) → IsProgram bytes program → HasAnswer (ActionAnswer bytes program request devices)
-  action_answered devices bytes program is =
+module _ (known : Known) where
+  action_answered : (request : PlayRequest) (devices : List Desc) (bytes : List ℕ) (program : List StmtTree) → IsProgram bytes program →
+      HasAnswer (ActionAnswer bytes program request devices)
+  action_answered request devices bytes program is =
       let took = known.taken bytes program is in
       let cut = known.pieces bytes in
       choice_answered bytes cut.0 cut.1 (as_played program) request.turns (run_of request.place devices)
@@ -95,25 +99,39 @@ module _ (known : Known) (request : PlayRequest) where
       (ends_alone known.never program (lists_of (as_played program)) (known.typed bytes program is) (known.code (as_played program) took)
       (known.in_range (as_played program) took) (known.valid (as_played program) took) request (run_of request.place devices))
 
-  text_answered : (devices : List Desc) (bytes : List ℕ) → HasAnswer (TextAnswer request devices bytes)
+  actions_answered : (request : PlayRequest) (devices : List Desc) (bytes : List ℕ) (program : List StmtTree) → IsProgram bytes program → (names : List (List ℕ)) →
+      HasAnswer (ActionsAnswer bytes program request devices names)
+  actions_answered request devices bytes program is [] = ([], statuses.Quiet, no_more)
+  actions_answered request devices bytes program is (name ∷ names) =
+      let a = action_answered (with_action request name) devices bytes program is in
+      let b = actions_answered request devices bytes program is names in
+      (action_text name a.0 ++ b.0, first_unquiet a.1 b.1, one_more name names a.0 b.0 a.1 b.1 a.2 b.2)
+
+  program_answered : (actions : Actions) (request : PlayRequest) (devices : List Desc) (bytes : List ℕ) (program : List StmtTree) → IsProgram bytes program →
+      HasAnswer (ProgramAnswer actions bytes program request devices)
+  program_answered Named request devices bytes program is = action_answered request devices bytes program is
+  program_answered Each request devices bytes program is = actions_answered request devices bytes program is (actions_of program)
+
+module _ (known : Known) (actions : Actions) (request : PlayRequest) where
+  text_answered : (devices : List Desc) (bytes : List ℕ) → HasAnswer (TextAnswer actions request devices bytes)
   text_answered devices bytes = by (known.programs bytes)
     where
       by : ((statements : List StmtTree) × IsProgram bytes statements) ⊎ ((piece : ℕ) × (line : ℕ) × (reason : Reason) × FirstFault bytes piece line reason) →
-          HasAnswer (TextAnswer request devices bytes)
-      by (inl (program, is)) = let a = action_answered devices bytes program is in (a.0, a.1, accepted program a.0 a.1 is a.2)
+          HasAnswer (TextAnswer actions request devices bytes)
+      by (inl (program, is)) = let a = program_answered known actions request devices bytes program is in (a.0, a.1, accepted program a.0 a.1 is a.2)
       by (inr (piece, line, reason, fault)) = (refusal_line piece line reason, statuses.Refused piece reason, refused piece line reason fault)
 
-  request_answered : (contents : List (Option (List ℕ))) → ArePlayFilesHeld contents → HasAnswer (RequestAnswer request contents)
+  request_answered : (contents : List (Option (List ℕ))) → ArePlayFilesHeld contents → HasAnswer (RequestAnswer actions request contents)
   request_answered contents held = by (known.boards held.board.bytes)
     where
       by : ((devices : List Desc) × IsBoard held.board.bytes devices) ⊎ ((line : ℕ) × (reason : BoardReason) × IsFirstFault held.board.bytes line reason) →
-          HasAnswer (RequestAnswer request contents)
+          HasAnswer (RequestAnswer actions request contents)
       by (inl (devices, is)) = let a = text_answered devices held.source.bytes in (a.0, a.1, board_read devices a.0 a.1 (rw held.board.there is) (rw held.source.there a.2))
       by (inr (line, reason, fault)) = (board_refusal_line line reason, statuses.BoardRefused line reason, board_refused line reason (rw held.board.there fault))
 
 pub words_answered : (known : Known) (words : List (List ℕ)) (contents : List (Option (List ℕ))) → ArePlayFilesHeld contents → HasAnswer (WordsAnswer words contents)
 words_answered known words contents held = by (asked_or_refused words)
   where
-    by : ((play : FilePlay) × AskAbout words play) ⊎ ((n : ℕ) × HasUsage words n) → HasAnswer (WordsAnswer words contents)
-    by (inl (play, asks)) = let a = request_answered known play.request contents held in (a.0, a.1, asked play a.0 a.1 asks a.2)
+    by : ((question : Question) × Ask words question) ⊎ ((n : ℕ) × HasUsage words n) → HasAnswer (WordsAnswer words contents)
+    by (inl (question, asks)) = let a = request_answered known question.actions question.play.request contents held in (a.0, a.1, asked question a.0 a.1 asks a.2)
     by (inr (n, unread)) = (usage_line n, statuses.Usage n, usage n unread)

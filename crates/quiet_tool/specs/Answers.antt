@@ -1,8 +1,8 @@
 -- What the program writes, and how it ends: by its words and the contents of the files that they name. The rules are
 -- this tool's own.
-use Rattle.std.specs.Prelude.{◌≡◌, ◌≤◌, ℕ, Bool, true, false, List, codes, Option, None, Some, IsSomeAnd}
+use Rattle.std.specs.Prelude.{◌≡◌, ◌≤◌, ℕ, Bool, true, false, List, [], ◌∷◌, ◌++◌, codes, Option, None, Some, IsSomeAnd, filter_map}
 use Rattle.stapl_lexer.specs.declared.reason.Reason.{Reason}
-use Rattle.stapl_syntax.specs.Trees.{StmtTree}
+use Rattle.stapl_syntax.specs.Trees.{BodyTree, action, StmtTree}
 use Rattle.stapl_syntax.specs.Programs.{IsProgram, FirstFault}
 use Rattle.stapl_meaning.specs.declared.events.Ending.{Ending}
 use Rattle.stapl_meaning.specs.Choices.{Choice, choice_of}
@@ -20,12 +20,15 @@ use Rattle.tool_frame.specs.Files.{first_of, second_of}
 use Rattle.named_files.specs.Boards.{HasBoard, HasBoardFault}
 use Rattle.named_files.specs.Texts.{refusal_line, board_refusal_line, usage_line}
 use Rattle.play_words.specs.declared.requests.PlayRequest.{PlayRequest}
-use Rattle.play_words.specs.declared.requests.FilePlay.{FilePlay}
 use Rattle.code_plays.specs.Plays.{has_place, neighbours}
 use Rattle.quiet_tool.specs.declared.status.QuietStatus.{QuietStatus}
 use Rattle.quiet_tool.specs.declared.status.QuietStatus.TheVariants.{Quiet, NotQuiet, Refused, BoardRefused, NoAction, BadChoice, BadPlace, Usage}
-use Rattle.quiet_tool.specs.Texts.{quiet_text, unquiet_line, IsLineOf}
-use Rattle.quiet_tool.specs.Words.{AskAbout, HasUsage}
+use Rattle.quiet_tool.specs.declared.words.Actions.{Actions}
+use Rattle.quiet_tool.specs.declared.words.Actions.TheVariants.{Named, Each}
+use Rattle.quiet_tool.specs.declared.words.Question.{Question}
+use Rattle.quiet_tool.specs.Statuses.{first_unquiet}
+use Rattle.quiet_tool.specs.Texts.{quiet_text, unquiet_line, action_text, IsLineOf}
+use Rattle.quiet_tool.specs.Words.{Ask, HasUsage}
 
 -- the devices that are looked at alone: those of the run that is named, or all of the board
 abbrev pub run_of : Option PlaceRun → List Desc → List Desc
@@ -63,27 +66,75 @@ ActionAnswer bytes program request devices =
     ChoiceAnswer bytes (as_played program) (choice_of (as_played program) request.action request.todo request.skip)
     (has_place request.place devices) request.turns (run_of request.place devices)
 
--- The answer for a text: it is refused at its first fault, or it is a program, and the play of its action is judged.
-pub data TextAnswer (request : PlayRequest) (devices : List Desc) (bytes : List ℕ) : List ℕ → QuietStatus → Type 0 where
+-- the name of the action that a statement declares (JESD71, ACTION)
+abbrev pub action_name : BodyTree → Option (List ℕ)
+action_name (action name text items) = Some name
+action_name _ = None
+
+-- the actions of a program, in the order of their statements
+abbrev pub actions_of : List StmtTree → List (List ℕ)
+actions_of program = filter_map (λ st. action_name st.body) program
+
+-- the same that is asked of a play, of this action
+abbrev pub with_action : PlayRequest → List ℕ → PlayRequest
+with_action request name = record {
+  action = name;
+  todo = request.todo;
+  skip = request.skip;
+  place = request.place;
+  turns = request.turns;
+  pins = request.pins;
+  report = request.report;
+}
+
+-- What is written of these actions: of each in order its name and the answer about its play alone, as if the words had
+-- named it. The status is that of the first play which is not quiet.
+pub data ActionsAnswer (bytes : List ℕ) (program : List StmtTree) (request : PlayRequest) (devices : List Desc) :
+    List (List ℕ) → List ℕ → QuietStatus → Type 0 where
+  no_more : ActionsAnswer bytes program request devices [] [] Quiet
+  one_more : (name : List ℕ) (names : List (List ℕ)) (text others : List ℕ) (status rest : QuietStatus) →
+      ActionAnswer bytes program (with_action request name) devices text status →
+      ActionsAnswer bytes program request devices names others rest →
+      ActionsAnswer bytes program request devices (name ∷ names) (action_text name text ++ others)
+      (first_unquiet status rest)
+
+-- The answer for a program: about the play of the action that a request names, or of each action. A program has one.
+abbrev pub ProgramAnswer : Actions → List ℕ → List StmtTree → PlayRequest → List Desc → (List ℕ → QuietStatus → Type 0)
+ProgramAnswer Named bytes program request devices = ActionAnswer bytes program request devices
+ProgramAnswer Each bytes program request devices =
+    ActionsAnswer bytes program request devices (actions_of program)
+
+-- The answer for a text: it is refused at its first fault, or it is a program, and its plays are judged.
+pub data TextAnswer (actions : Actions) (request : PlayRequest) (devices : List Desc) (bytes : List ℕ) :
+    List ℕ → QuietStatus → Type 0 where
   refused : (piece line : ℕ) (reason : Reason) → FirstFault bytes piece line reason →
-      TextAnswer request devices bytes (refusal_line piece line reason) (Refused piece reason)
+      TextAnswer actions request devices bytes (refusal_line piece line reason) (Refused piece reason)
   accepted : (program : List StmtTree) (text : List ℕ) (status : QuietStatus) → IsProgram bytes program →
-      ActionAnswer bytes program request devices text status → TextAnswer request devices bytes text status
+      ProgramAnswer actions bytes program request devices text status →
+      TextAnswer actions request devices bytes text status
 
 -- The same for a file, where it is held.
-abbrev pub HeldAnswer : PlayRequest → List Desc → Option (List ℕ) → List ℕ → QuietStatus → Type 0
-HeldAnswer request devices held text status = IsSomeAnd held (λ bytes. TextAnswer request devices bytes text status)
+abbrev pub HeldAnswer : Actions → PlayRequest → List Desc → Option (List ℕ) → List ℕ → QuietStatus → Type 0
+HeldAnswer actions request devices held text status =
+    IsSomeAnd held (λ bytes. TextAnswer actions request devices bytes text status)
 
--- The answer about a play that is asked for so, with these contents of its files: its board is refused at its first
--- fault, or is of these devices, and the answer is that for its program.
-pub data RequestAnswer (request : PlayRequest) (contents : List (Option (List ℕ))) : List ℕ → QuietStatus → Type 0 where
+-- The answer about plays that are asked for so, with these contents of their files: their board is refused at its first
+-- fault, or is of these devices, and the answer is that for their program.
+pub data RequestAnswer (actions : Actions) (request : PlayRequest) (contents : List (Option (List ℕ))) :
+    List ℕ → QuietStatus → Type 0 where
   board_refused : (line : ℕ) (reason : BoardReason) → HasBoardFault (first_of contents) line reason →
-      RequestAnswer request contents (board_refusal_line line reason) (BoardRefused line reason)
+      RequestAnswer actions request contents (board_refusal_line line reason) (BoardRefused line reason)
   board_read : (devices : List Desc) (text : List ℕ) (status : QuietStatus) → HasBoard (first_of contents) devices →
-      HeldAnswer request devices (second_of contents) text status → RequestAnswer request contents text status
+      HeldAnswer actions request devices (second_of contents) text status →
+      RequestAnswer actions request contents text status
 
--- The answer to words, with these contents of their files: they are refused, or the play that they ask about is judged.
+-- the answer to a question
+abbrev pub QuestionAnswer : Question → List (Option (List ℕ)) → (List ℕ → QuietStatus → Type 0)
+QuestionAnswer question contents = RequestAnswer question.actions question.play.request contents
+
+-- The answer to words, with these contents of their files: they are refused, or the plays that they ask about are
+-- judged.
 pub data WordsAnswer (words : List (List ℕ)) (contents : List (Option (List ℕ))) : List ℕ → QuietStatus → Type 0 where
   usage : (n : ℕ) → HasUsage words n → WordsAnswer words contents (usage_line n) (Usage n)
-  asked : (play : FilePlay) (text : List ℕ) (status : QuietStatus) → AskAbout words play →
-      RequestAnswer play.request contents text status → WordsAnswer words contents text status
+  asked : (question : Question) (text : List ℕ) (status : QuietStatus) → Ask words question →
+      QuestionAnswer question contents text status → WordsAnswer words contents text status

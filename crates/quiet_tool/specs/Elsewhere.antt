@@ -1,5 +1,5 @@
 -- Plays at any place of any board of what is quiet on its devices alone. The rules are this tool's own.
-use Rattle.std.specs.Prelude.{◌≡◌, ℕ, false, true, List, Option, Some}
+use Rattle.std.specs.Prelude.{◌≡◌, ℕ, false, true, List, Option, Some, Contains}
 use Rattle.stapl_syntax.specs.Trees.{StmtTree}
 use Rattle.stapl_syntax.specs.Programs.{IsProgram}
 use Rattle.dev_card.specs.declared.desc.Desc.{Desc}
@@ -16,17 +16,34 @@ use Rattle.play_words.specs.declared.status.Status.{Status}
 use Rattle.play_tool.specs.Answers.{PlaysAction}
 use Rattle.play_tool.specs.Answers as plays
 use Rattle.play_tool.specs.Alone.{alone_request}
-use Rattle.quiet_tool.specs.Words.{AskAbout}
+use Rattle.quiet_tool.specs.Words.{Ask}
+use Rattle.quiet_tool.specs.declared.words.Actions.{Actions}
+use Rattle.quiet_tool.specs.declared.words.Actions.TheVariants.{Named, Each}
+use Rattle.quiet_tool.specs.declared.words.Question.{Question}
 use Rattle.quiet_tool.specs.declared.status.QuietStatus.{QuietStatus}
 use Rattle.quiet_tool.specs.declared.status.QuietStatus.TheVariants.{Quiet}
-use Rattle.quiet_tool.specs.Answers.{run_of, WordsAnswer}
+use Rattle.quiet_tool.specs.Answers.{run_of, actions_of, WordsAnswer}
 
--- Other words ask for a play of the same program: of the same action, with the same choices and turns, without the
--- clocks, for a run of a board that has in a row the devices that the words ask about.
+-- The program that is held has an action of this name.
+pub record HasAction (source : Option (List ℕ)) (name : List ℕ) : Type 0 where
+  pub bytes : List ℕ
+  pub held : source ≡ Some bytes
+  pub program : List StmtTree
+  pub is : IsProgram bytes program
+  pub among : Contains (actions_of program) name
+
+-- the action is the one that is asked about, or one of the program if each is
+abbrev pub IsAskedAction : Actions → PlayRequest → Option (List ℕ) → List ℕ → Type 0
+IsAskedAction Named request source name = name ≡ request.action
+IsAskedAction Each request source name = HasAction source name
+
+-- Other words ask for a play of the same program: of the action that the words ask about, or of any one of the program
+-- if they ask about each, with the same choices and turns, without the clocks, for a run of a board that has in a row
+-- the devices that the words ask about.
 pub record PlaysElsewhere (words : List (List ℕ)) (contents : List (Option (List ℕ))) (other : List (List ℕ))
     (held : List (Option (List ℕ))) : Type 0 where
-  pub play : FilePlay
-  pub about : AskAbout words play
+  pub question : Question
+  pub about : Ask words question
   pub devices : List Desc
   pub board : HasBoard (first_of contents) devices
   pub played : FilePlay
@@ -37,12 +54,12 @@ pub record PlaysElsewhere (words : List (List ℕ)) (contents : List (Option (Li
   pub around : List Desc
   pub other_board : HasBoard (first_of held) around
   pub placed : has_place (Some run) around ≡ true
-  pub same_devices : in_run (neighbours run) around ≡ run_of play.request.place devices
+  pub same_devices : in_run (neighbours run) around ≡ run_of question.play.request.place devices
   pub same_program : second_of held ≡ second_of contents
-  pub same_action : played.request.action ≡ play.request.action
-  pub same_todo : played.request.todo ≡ play.request.todo
-  pub same_skip : played.request.skip ≡ play.request.skip
-  pub same_turns : played.request.turns ≡ play.request.turns
+  pub asked_action : IsAskedAction question.actions question.play.request (second_of contents) played.request.action
+  pub same_todo : played.request.todo ≡ question.play.request.todo
+  pub same_skip : played.request.skip ≡ question.play.request.skip
+  pub same_turns : played.request.turns ≡ question.play.request.turns
 
 -- What is answered to a play is what is answered to it on a board of these devices alone: the text, with their report,
 -- and the status.
@@ -60,9 +77,9 @@ IsQuietEverywhere words contents =
     (other : List (List ℕ)) (held : List (Option (List ℕ))) (q : PlaysElsewhere words contents other held)
     (text : List ℕ) (status : Status) →
     plays.WordsAnswer other (λ request. held) text status →
-    IsAsAlone (second_of contents) q.played.request (run_of q.play.request.place q.devices) text status
+    IsAsAlone (second_of contents) q.played.request (run_of q.question.play.request.place q.devices) text status
 
--- The answer to the words, with these contents of their files; and a play that is quiet is the same everywhere.
+-- The answer to the words, with these contents of their files; and if it is quiet, its plays are the same everywhere.
 pub record PromisedAnswer (words : List (List ℕ)) (contents : List (Option (List ℕ))) (text : List ℕ)
     (status : QuietStatus) : Type 0 where
   pub answer : WordsAnswer words contents text status

@@ -24,3 +24,8 @@ no_fault_codes NoAction = refl
 no_fault_codes BadChoice = refl
 no_fault_codes BadPlace = refl
 no_fault_codes (Usage n) = refl
+
+-- the status of some plays: that of the first one which is not quiet
+abbrev pub first_unquiet : QuietStatus → QuietStatus → QuietStatus
+first_unquiet Quiet others = others
+first_unquiet status others = status

@@ -28,6 +28,10 @@ unquiet_line piece line turn why =
     labelled (codes "not quiet piece ") (pos piece) ++ labelled (codes " line ") (pos line)
     ++ labelled (codes " turn ") (pos turn) ++ codes ": " ++ why_text why
 
+-- what is written of a play of this action among others: the name before what is written of the play alone
+abbrev pub action_text : List ℕ → List ℕ → List ℕ
+action_text name text = codes "A " ++ name ++ codes " " ++ text
+
 -- the line of the piece of this number, counted from 1; 0 if there is none
 abbrev pub line_of_piece : List Piece → ℕ → ℕ
 line_of_piece pieces zero = 0

@@ -4,13 +4,12 @@ ghost use Rattle.tool_io.specs.Lines.{IsWhole};
 ghost use Rattle.tool_frame.specs.Files.{OfFiles, KeepsShelf};
 ghost use Rattle.tool_frame.specs.Frame.{SaysAndLeaves};
 ghost use Rattle.chain_sim.specs.Rack.{IsRack};
-ghost use Rattle.play_tool.specs.ReadContents.{NamesFiles, IsReachedBy};
 ghost use Rattle.quiet_tool.specs.declared.help.TheConstants.{HELP, VERSION};
 ghost use Rattle.quiet_tool.specs.Statuses.{exit_code_of, no_fault_codes};
-ghost use Rattle.quiet_tool.specs.Words.{play_words};
+ghost use Rattle.quiet_tool.specs.Words.{NamesFiles, IsReachedBy};
 ghost use Rattle.quiet_tool.specs.Elsewhere.{PromisedAnswer};
 
-use crate::answering::answer_play;
+use crate::answering::answer_question;
 use crate::words::read_question;
 use crate::{QuietStatus, help};
 use dev_card::Device;
@@ -23,8 +22,9 @@ use tool_io::{Lines, Shelf, Sink};
 /// Says whether the play that the words ask for is quiet on its devices alone: those of the place that they name, or
 /// all of the board. They are the words of a play by the tool, after the word `play`. If the play is quiet for its
 /// turns, a line says for how many, and one how it ends; else a line names the first deed that is not quiet. What is
-/// refused is told as by a play. The devices of the rack are fitted anew for each play that is made, and each keeps its
-/// kind.
+/// refused is told as by a play. If the words name no action, the same is said of the play of each action of the
+/// program, in the order of its text, after the name of the action. The devices of the rack are fitted anew for each
+/// play that is made, and each keeps its kind.
 ///
 /// All memory is taken before the first byte is put. There is none, too, if a scan has 2 ^ 64 bits or more.
 pub struct QuietJudge;
@@ -36,9 +36,9 @@ impl Tool for QuietJudge {
 
     ghost ready = { λ rack. IsRack (map (λ b. (Device-box b).kind_of b.value) rack.items) };
 
-    ghost names = { λ words. NamesFiles (play_words words) };
+    ghost names = { λ words. NamesFiles words };
 
-    ghost reached = { λ told words. IsReachedBy told (play_words words) };
+    ghost reached = { λ told words. IsReachedBy told words };
 
     ghost answers = { λ words contents. PromisedAnswer words contents };
 
@@ -78,7 +78,7 @@ impl Tool for QuietJudge {
         lines: &mut Lines<K>,
     ) -> Result<QuietStatus, NoAnswer> {
         match read_question(alloc, words) {
-            Ok(play) => answer_play(alloc, &play, shelf, rack, lines),
+            Ok(question) => answer_question(alloc, &question, shelf, rack, lines),
             Err(WordsRefused::Usage(n)) => {
                 put_usage(lines, n)?;
                 Ok(QuietStatus::Usage(n))

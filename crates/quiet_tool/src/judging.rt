@@ -19,7 +19,6 @@ use crate::lines::{line_of_piece, quiet_text, unquiet_line};
 use code_plays::{Task, choose_asked, has_place};
 use dev_card::{Desc, Device};
 use quiet_runs::{Verdict, quiet_play};
-use stapl_codegen::generate;
 use stapl_lexer::cut;
 use stapl_meaning::laws::programs_are_typed;
 use stapl_player::ChoiceRefused;
@@ -122,8 +121,10 @@ fn refuse(alloc: Global, line: &[u8], status: QuietStatus) -> Result<Answer, All
     Ok(Answer { text, status })
 }
 
-// The answer for a program, by its code.
-fn answer_code(
+/// The verdict on the play of a program that a task asks for, by the code of the program.
+///
+/// `AllocError` comes for want of memory, or if a scan has 2 ^ 64 bits or more. Each device of the rack keeps its kind.
+pub(crate) fn answer_code(
     alloc: Global,
     task: &Task,
     program: &Program,
@@ -146,25 +147,4 @@ fn answer_code(
         Err(ChoiceRefused::BadChoice) => refuse(alloc, b"R choice\n", QuietStatus::BadChoice),
         Err(ChoiceRefused::Memory) => Err(AllocError),
     }
-}
-
-/// The answer for a program: the verdict on the play that a task asks for.
-///
-/// `AllocError` comes for want of memory, or if a scan has 2 ^ 64 bits or more. Each device of the rack keeps its kind.
-pub(crate) fn answer_program(
-    alloc: Global,
-    task: &Task,
-    program: &Program,
-    rack: &mut Vec<Box<dyn Device>>,
-) -> Result<Answer, AllocError>
-    requires program { IsProgram program.now.text (trees_of program.now) }
-    requires devices { CanBeFitted task.now.devices.now }
-    requires rack { IsRack (map kind_of rack.old.items) }
-    ensures answer { IfOk result (λ answer. ActionAnswer program.now.text (trees_of program.now)
-        task.now.request.now task.now.devices.now answer.text.items answer.status) }
-    ensures kinds { map kind_of rack.new.items ≡ map kind_of rack.old.items }
-{
-    let code = generate(alloc, program)?;
-    let answer = answer_code(alloc, task, program, &code, rack)?;
-    Ok(answer)
 }

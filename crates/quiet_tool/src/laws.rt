@@ -1,10 +1,10 @@
 //! Laws of the definitions.
 ghost use Rattle.std.specs.Prelude.{◌≡◌, ◌⊎◌, ℕ, List, Option};
-ghost use Rattle.play_words.specs.declared.requests.FilePlay.{FilePlay};
 ghost use Rattle.play_tool.specs.Held.{ArePlayFilesHeld};
 ghost use Rattle.quiet_tool.specs.declared.status.QuietStatus.{QuietStatus};
 ghost use Rattle.quiet_tool.specs.declared.status.QuietStatus.TheVariants.{Quiet};
-ghost use Rattle.quiet_tool.specs.Words.{AskAbout, HasUsage};
+ghost use Rattle.quiet_tool.specs.declared.words.Question.{Question};
+ghost use Rattle.quiet_tool.specs.Words.{Ask, HasUsage};
 ghost use Rattle.quiet_tool.specs.Answers.{WordsAnswer};
 ghost use Rattle.quiet_tool.specs.Elsewhere.{IsQuietEverywhere};
 
@@ -15,14 +15,15 @@ use stapl_codegen::laws::{accepted_code_is_valid, programs_are_accepted};
 use stapl_lexer::laws::every_text_has_pieces;
 use stapl_meaning::laws::programs_are_typed;
 
-/// All words ask about one play, or they are refused at one word, and never both.
-pub fn words_ask_about_a_play_or_are_refused()
+/// All words ask one question, about one play or about that of each action, or they are refused at one word, and never
+/// both.
+pub fn words_ask_a_question_or_are_refused()
     ensures each { (words : List (List ℕ)) →
-        ((play : FilePlay) × AskAbout words play) ⊎ ((n : ℕ) × HasUsage words n) }
-    ensures one_play { (words : List (List ℕ)) (a b : FilePlay) → AskAbout words a → AskAbout words b → a ≡ b }
+        ((question : Question) × Ask words question) ⊎ ((n : ℕ) × HasUsage words n) }
+    ensures one_question { (words : List (List ℕ)) (a b : Question) → Ask words a → Ask words b → a ≡ b }
     ensures one_word { (words : List (List ℕ)) (n m : ℕ) → HasUsage words n → HasUsage words m → n ≡ m }
-    ensures not_both { (words : List (List ℕ)) (n : ℕ) (play : FilePlay) → HasUsage words n →
-        AskAbout words play → ⊥ }
+    ensures not_both { (words : List (List ℕ)) (n : ℕ) (question : Question) → HasUsage words n →
+        Ask words question → ⊥ }
 {}
 
 /// The words and the contents of their files have at most one answer.
@@ -45,9 +46,10 @@ pub fn words_are_answered()
     never_stuck();
 }
 
-/// If the answer is that the play is quiet, then the tool answers a play of the same action, with the same choices and
-/// turns and without the clocks, at each place of each board that has these devices in a row, as the play on these
-/// devices alone: with its text, the report of these devices in order, and its status.
+/// If the answer is that the play is quiet, or that each play is, then the tool answers a play of the same action, or of
+/// any action of the program, with the same choices and turns and without the clocks, at each place of each board that
+/// has these devices in a row, as the play on these devices alone: with its text, the report of these devices in order,
+/// and its status.
 pub fn quiet_plays_are_the_same_everywhere()
     ensures { (words : List (List ℕ)) (contents : List (Option (List ℕ))) (text : List ℕ) →
         WordsAnswer words contents text Quiet → IsQuietEverywhere words contents }

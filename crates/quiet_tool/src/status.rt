@@ -1,15 +1,16 @@
 //! How the program ends.
 ghost use Rattle.std.specs.Prelude.{◌≡◌};
-ghost use Rattle.quiet_tool.specs.Statuses.{exit_code_of};
+ghost use Rattle.quiet_tool.specs.Statuses.{exit_code_of, first_unquiet};
 
 use board_text::BoardReason;
 use padded_plays::Unquiet;
 use stapl_lexer::Reason;
 
-/// How the program ends.
+/// How the program ends. If the words ask about the play of each action, this is how the first one ends that is not
+/// quiet.
 #[derive(Clone, Copy)]
 pub enum QuietStatus {
-    /// The play is quiet for its turns.
+    /// The play is quiet for its turns, or each play is.
     Quiet,
     /// The play is not quiet: the turn and the piece of its first deed that is not, counted from 1, or 0 of what sets
     /// the play up, and why it is not.
@@ -42,6 +43,16 @@ impl QuietStatus {
             QuietStatus::NoAction | QuietStatus::BadChoice | QuietStatus::BadPlace => 6,
             QuietStatus::Usage(_) => 7,
             QuietStatus::NotQuiet(_, _, _) => 17,
+        }
+    }
+
+    /// This status if the play is not quiet, and else that of other plays.
+    pub(crate) fn or(self, others: QuietStatus) -> QuietStatus
+        ensures { result ≡ first_unquiet self others }
+    {
+        match self {
+            QuietStatus::Quiet => others,
+            _ => self,
         }
     }
 }

@@ -10,18 +10,18 @@ use Rattle.quiet_tool.proofs.answering.answer_file.Goals as goal
 pub returns-in-Ok-clause-says : goal.returns-in-Ok-clause-says
 returns-in-Ok-clause-says g c =
     of_text (g.S.Shelf.told c.args.shelf.now) c.args.path.now _ c.in-Ok.ensures.text
-    (says_within _ _ _ _ _ c.put_verdict.result (program_in_text c.args.task.now.request.now c.args.task.now.devices.now _ _ c.in-Ok.ensures.program) (λ none. absurd none) c.put_verdict.ensures.says)
+    (says_within _ _ _ _ _ c.put_answer.result (program_in_text c.args.asked.now.actions c.args.asked.now.task.request.now c.args.asked.now.task.devices.now _ _ c.in-Ok.ensures.program) (λ none. absurd none) c.put_answer.ensures.says)
 
 pub returns-in_err-put_refusal-in-Err-Refused-clause-says : goal.returns-in_err-put_refusal-in-Err-Refused-clause-says
 returns-in_err-put_refusal-in-Err-Refused-clause-says g c =
-    refusal_failed _ _ _ (TextAnswer c.args.task.now.request.now c.args.task.now.devices.now) _ (λ bytes. refused _ _ _)
+    refusal_failed _ _ _ (TextAnswer c.args.asked.now.actions c.args.asked.now.task.request.now c.args.asked.now.task.devices.now) _ (λ bytes. refused _ _ _)
     (fault_is (sym c.in-Err-Refused.piece-is) (sym c.in-Err-Refused.line-is) (sym c.in-Err-Refused.reason-is)
     (c.in-Err-Refused.ensures.fault c.in-Err-Refused.piece c.in-Err-Refused.line c.in-Err-Refused.reason (ap Err c.in-Err-Refused.field-0-is)))
     c.from_residual.result c.from_residual.ensures.1 c.in_err-put_refusal-in-Err-Refused.ensures
 
 pub returns-in_ok-put_refusal-in-Err-Refused-clause-says : goal.returns-in_ok-put_refusal-in-Err-Refused-clause-says
 returns-in_ok-put_refusal-in-Err-Refused-clause-says g c =
-    refusal_put _ _ _ (TextAnswer c.args.task.now.request.now c.args.task.now.devices.now) _ (λ bytes. refused _ _ _)
+    refusal_put _ _ _ (TextAnswer c.args.asked.now.actions c.args.asked.now.task.request.now c.args.asked.now.task.devices.now) _ (λ bytes. refused _ _ _)
     (fault_is (sym c.in-Err-Refused.piece-is) (sym c.in-Err-Refused.line-is) (sym c.in-Err-Refused.reason-is)
     (c.in-Err-Refused.ensures.fault c.in-Err-Refused.piece c.in-Err-Refused.line c.in-Err-Refused.reason (ap Err c.in-Err-Refused.field-0-is)))
     c.in_ok-put_refusal-in-Err-Refused.ensures

@@ -1,11 +1,11 @@
 use Rattle.quiet_tool.proofs.WordLemmas.{asked_or_refused, one_asked, one_refused, not_both}
-use Rattle.quiet_tool.proofs.laws.words_ask_about_a_play_or_are_refused.Goals as goal
+use Rattle.quiet_tool.proofs.laws.words_ask_a_question_or_are_refused.Goals as goal
 
 pub returns-clause-each : goal.returns-clause-each
 returns-clause-each c = asked_or_refused
 
-pub returns-clause-one_play : goal.returns-clause-one_play
-returns-clause-one_play c = one_asked
+pub returns-clause-one_question : goal.returns-clause-one_question
+returns-clause-one_question c = one_asked
 
 pub returns-clause-one_word : goal.returns-clause-one_word
 returns-clause-one_word c = one_refused
