@@ -60,11 +60,11 @@ def waits(cycles, rounds):
 
 
 KINDS = (
-    ("100 scans of 4,096 bits, compared", bypassed(4096, 100, True)),
-    ("100 scans of 4,096 bits", bypassed(4096, 100, False)),
-    ("1,000 scans of 4 and of 16 bits, compared", bypassed(16, 1000, True, True)),
-    ("1,000 scans of 4 and of 16 bits", bypassed(16, 1000, False, True)),
-    ("40 waits of 1,000 cycles", waits(1000, 40)),
+    ("1,000 scans of 4,096 bits, compared", bypassed(4096, 1000, True)),
+    ("1,000 scans of 4,096 bits", bypassed(4096, 1000, False)),
+    ("20,000 scans of 4 and of 16 bits, compared", bypassed(16, 20000, True, True)),
+    ("20,000 scans of 4 and of 16 bits", bypassed(16, 20000, False, True)),
+    ("2,000 waits of 1,000 cycles", waits(1000, 2000)),
 )
 NOTHING = waits(1, 0)
 # A time below so many seconds is lost in the time that the start takes.
