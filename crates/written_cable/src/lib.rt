@@ -10,6 +10,7 @@ mod reset;
 mod trouble;
 
 pub use digits::Digits;
+pub use line_writer::put_digits;
 pub use paper::Paper;
 pub use pin_cable::PinCable;
 pub use reset::five_ones;

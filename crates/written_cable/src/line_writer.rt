@@ -45,8 +45,10 @@ fn put_print_line<K: Sink>(out: &mut Lines<K>, bytes: &[u8]) -> Result<(), Faile
     Ok(())
 }
 
-// Puts all digits of a part of a list of bits, the highest first.
-fn put_digits<K: Sink>(out: &mut Lines<K>, bits: &Bits, span: Span) -> Result<(), Failed>
+/// Puts the hexadecimal digits of a part of a list of bits, the highest first.
+///
+/// `Failed` as of the sink.
+pub fn put_digits<K: Sink>(out: &mut Lines<K>, bits: &Bits, span: Span) -> Result<(), Failed>
     requires whole { IsWhole out.old }
     requires inside { span.low + span.count ≤ length bits.now }
     requires few { span.low + span.count + 3 < 2 ^ 32 }
