@@ -12,6 +12,7 @@ use machine_memory::memory::Workspace;
 use scan_paths::{BasePads, Cable};
 use stapl_machine::Machine;
 use std::sync::ledger::Ledger;
+use tap_states::Tap;
 use tool_io::{Lines, Sink};
 use valid_codes::Code;
 use written_cable::{Digits, Paper, PinCable, Trouble};
@@ -35,7 +36,7 @@ fn place_on<C: Cable, O: Paper, L: Ledger>(
     ensures made { (signals : List Signal) × C.made cable.old signals cable.new }
 {
     let lists = code.raw().lists();
-    let mut port = PinCable::over(cable, out, Digits::none(), false, *base);
+    let mut port = PinCable::over(cable, out, Tap::Reset, Digits::none(), false, *base);
     match play_place(lists, chosen, work, &mut port, turns, steps) {
         Ok(place) => Ok(place),
         Err(trouble) => Err(trouble),

@@ -19,6 +19,7 @@ use stapl_instructions::print_room;
 use stapl_meaning::Ending;
 use std::alloc::{AllocError, Global};
 use std::sync::ledger::Ledger;
+use tap_states::Tap;
 use tool_io::{Failed, Lines, Sink};
 use valid_codes::Code;
 use written_cable::{Digits, Paper, PinCable, Trouble, five_ones};
@@ -129,7 +130,8 @@ impl Machine {
         never_stuck();
         plays_are_bounded();
         let lists = code.raw().lists();
-        let mut port = PinCable::over(cable, out, self.first_digits(pins), pins, *base);
+        let digits = self.first_digits(pins);
+        let mut port = PinCable::over(cable, out, Tap::Reset, digits, pins, *base);
         match play_out(lists, chosen, &mut self.work, &mut port, turns, steps) {
             Ok(Some(ending)) => Ok(ending),
             Ok(None) => unreachable!(),

@@ -2,7 +2,7 @@
 -- the clocks that were made answer, and whatever is still to be heard.
 use Rattle.std.specs.Prelude.{◌≡◌, ◌≢◌, ℕ, ◌+◌, ◌≤◌, Bool, false, List, [], ◌∷◌, ◌++◌, Option, Some, None, Result, Ok, Err, IfErr, OnOk}
 use Rattle.std.specs.Borrow.{MutBor}
-use Rattle.tap_states.specs.declared.Tap.TheVariants.{Reset}
+use Rattle.tap_states.specs.declared.Tap.{Tap}
 use Rattle.dev_card.specs.Card.{Card}
 use Rattle.dev_card.specs.Board.{Clock, tdos, AllIn}
 use Rattle.tool_io.specs.Causes.{HasRisen, NeverFalls}
@@ -42,14 +42,14 @@ IfFault WriteFault cable lines = lines
 abbrev pub broken_part : {C O : Type 0} → CableOf C → PaperOf O → PinCable C O → Breakage
 broken_part cable paper port = port_breakage cable.breakage paper.failed port
 
--- A port over the cable and the paper that these references point to, with all controllers in the reset state, and with
+-- A port over the cable and the paper that these references point to, with all controllers in this state, and with
 -- these digits and this base padding. No line is torn.
-pub record IsNewPort {C O : Type 0} (over_cable : MutBor C) (over_paper : MutBor O) (waiting : List ℕ) (writes : Bool) (padding : BaseLengths) (port : PinCable C O) : Type 0 where
+pub record IsNewPort {C O : Type 0} (over_cable : MutBor C) (over_paper : MutBor O) (at : Tap) (waiting : List ℕ) (writes : Bool) (padding : BaseLengths) (port : PinCable C O) : Type 0 where
   pub same_cable : IsOverCable port over_cable
   pub same_out : IsOverLines port over_paper
   pub cable : cable_of port ≡ over_cable.now
   pub out : lines_of port ≡ over_paper.now
-  pub tap : tap_of port ≡ Reset
+  pub tap : tap_of port ≡ at
   pub base : base_of port ≡ padding
   pub digits : digits_of port ≡ waiting
   pub pins : writes_pins port ≡ writes

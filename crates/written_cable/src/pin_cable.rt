@@ -130,28 +130,36 @@ fn set_frequency<C: Cable>(cable: &mut C, n: u32) -> Result<(), Failed>
 }
 
 impl<'a, C: Cable, O: Paper> PinCable<'a, C, O> {
-    ghost use Rattle.written_cable.specs.Pins.{is_torn};
+    ghost use Rattle.written_cable.specs.Pins.{is_torn, tap_of};
 
-    /// Over this cable, whose controllers are in the reset state, and these lines, where these digits wait, with this
-    /// base padding.
+    /// Over this cable, whose controllers are all in this state, and these lines, where these digits wait, with this base
+    /// padding.
     pub fn over(
         cable: &'a mut C,
         out: &'a mut O,
+        tap: Tap,
         digits: Digits,
         pins: bool,
         base: BasePads,
     ) -> PinCable<'a, C, O>
-        ensures { IsNewPort cable.entry out.entry digits pins (lengths_of base) result }
+        ensures { IsNewPort cable.entry out.entry tap digits pins (lengths_of base) result }
     {
         PinCable {
             cable,
             out,
-            tap: Tap::Reset,
+            tap,
             base,
             digits,
             pins,
             torn: false,
         }
+    }
+
+    /// The state of all controllers.
+    pub fn tap(&self) -> Tap
+        ensures { result ≡ tap_of self.now }
+    {
+        self.tap
     }
 
     /// Whether a call on the lines has failed.
