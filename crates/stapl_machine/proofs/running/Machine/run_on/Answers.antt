@@ -34,7 +34,7 @@ returns-in-Ok-Some-clause-played g c =
     (state_of chosen new.work) same c.requires.ready.variables_are c.in-Ok-Some.field-0-is c.in-Ok-Some.ensures.plays in
     let machine : Machine = record { work = new.work; digits = old.digits } in
     machine_played m w chosen machine c.args.pins (digits_in old)
-    (lengths_of c.args.base.now) c.args.cable.now _ c.args.out.now _ port new.port o.cable o.out (o.digits ∙ c.first_digits.ensures) o.pins o.tap o.base (search rules) (search rules)
+    (lengths_of c.args.base.now) c.args.cable.now _ c.args.out.now _ port new.port o.cable o.out (o.digits ∙ c.first_digits-digits.ensures) o.pins o.tap o.base (search rules) (search rules)
     (play_of code chosen n) (play_ticks_of code chosen n) c.args.steps.now new.steps c.in-Ok-Some.ending new.work refl plays
 
 pub returns-in-Err-clause-played : goal.returns-in-Err-clause-played
@@ -46,7 +46,7 @@ returns-in-Err-clause-played g c =
     let plays = over_code_front m w lists code chosen v n port new.port c.args.steps.now new.steps same c.requires.ready.variables_are c.in-Err.ensures.plays in
     let machine : Machine = record { work = new.work; digits = old.digits } in
     machine_front m w chosen machine c.args.pins (digits_in old)
-    (lengths_of c.args.base.now) c.args.cable.now _ c.args.out.now _ port new.port o.cable o.out (o.digits ∙ c.first_digits.ensures) o.pins o.tap o.base (search rules) (search rules)
+    (lengths_of c.args.base.now) c.args.cable.now _ c.args.out.now _ port new.port o.cable o.out (o.digits ∙ c.first_digits-digits.ensures) o.pins o.tap o.base (search rules) (search rules)
     (play_of code chosen n) (play_ticks_of code chosen n) c.args.steps.now new.steps plays
 
 pub returns-in-Ok-Some-clause-bounded : goal.returns-in-Ok-Some-clause-bounded
