@@ -8,7 +8,7 @@ use Rattle.stapl_meaning.specs.Texts.{event_line, bytes_of, waiting, pin_line, e
 use Rattle.scan_accounts.specs.MadeTurns.{MadeTurn, MadePlay, made_events}
 use Rattle.scan_accounts.proofs.MadeEvents.{turn_events}
 
-none_waits : (es : List Event) → waiting false [] es ≡ []
+pub none_waits : (es : List Event) → waiting false [] es ≡ []
 none_waits [] = refl
 none_waits (events.Clock tms tdi tdo ∷ es) = none_waits es
 none_waits (Print bytes ∷ es) = none_waits es

@@ -7,6 +7,7 @@ use Rattle.dev_card.specs.Padding.{BaseLengths}
 use Rattle.stapl_syntax.specs.Programs.{line_of_index}
 use Rattle.stapl_meaning.specs.declared.events.Ending.{Ending}
 use Rattle.stapl_meaning.specs.Texts.{events_text, ending_line}
+use Rattle.scan_accounts.specs.ShiftRuns.{ShiftRun}
 use Rattle.scan_accounts.specs.MadeTurns.{MadeTurn, MadePlay}
 use Rattle.scan_accounts.specs.Accounts.{Passage, passages_of, Account, account_of}
 
@@ -22,14 +23,17 @@ pub record CutText : Type 0 where
   pub text : List ℕ
   pub pieces : List Piece
 
--- the line of a run: its piece, counted from 1, the line of that in the text, what it is, how many bits it has, and
--- these in hexadecimal digits
+-- the line of a run: its piece, counted from 1, the line of that in the text, whether it is a scan, how many bits it
+-- has, and these in hexadecimal digits
+abbrev pub run_line : ℕ → ℕ → Bool → ShiftRun → List ℕ
+run_line piece line scan run =
+    labelled (codes "S ") (pos piece) ++ labelled (codes " line ") (pos line)
+    ++ codes " " ++ passage_name scan run.ir ++ labelled (codes " ") (pos (length run.bits_in))
+    ++ codes " in " ++ all_hex_digits run.bits_in ++ codes " out " ++ all_hex_digits run.bits_out ++ 10 ∷ []
+
+-- the line of what is said of a run
 abbrev pub passage_line : CutText → Passage → List ℕ
-passage_line cut p =
-    labelled (codes "S ") (pos (p.place + 1))
-    ++ labelled (codes " line ") (pos (line_of_index cut.text cut.pieces p.place))
-    ++ codes " " ++ passage_name p.scan p.run.ir ++ labelled (codes " ") (pos (length p.run.bits_in))
-    ++ codes " in " ++ all_hex_digits p.run.bits_in ++ codes " out " ++ all_hex_digits p.run.bits_out ++ 10 ∷ []
+passage_line cut p = run_line (p.place + 1) (line_of_index cut.text cut.pieces p.place) p.scan p.run
 
 -- the lines of a turn: those of its runs, and then what else it writes
 abbrev pub turn_lines : CutText → BaseLengths → MadeTurn → List ℕ

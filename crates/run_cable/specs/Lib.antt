@@ -1,0 +1,5 @@
+pub mod HeardRuns
+pub mod KeptRuns
+pub mod EndedRuns
+pub mod RunCables
+pub mod RunCableLaws

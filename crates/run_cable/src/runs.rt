@@ -1,0 +1,318 @@
+//! The runs of clocks at which a register shifts.
+ghost use Rattle.std.specs.Prelude.{◌≡◌, ◌≤◌, ◌<◌, ◌+◌, ◌-◌, ◌^◌, ◌∷◌, ◌++◌, ◌↔◌, [], true, false, length, map, Some, None, IfOk, IsTrue};
+ghost use Rattle.std.specs.Option.{option_map};
+ghost use Rattle.base.specs.Bits.{low_bits};
+ghost use Rattle.bit_list.specs.declared.TheConstants.{MOST_BITS};
+ghost use Rattle.tap_states.specs.Tap.{next_of};
+ghost use Rattle.dev_card.specs.Clocks.{clocks_with, still_inputs};
+ghost use Rattle.dev_card.specs.Blocks.{block_inputs};
+ghost use Rattle.scan_paths.specs.Cables.{Pulses, Waits, pulsed};
+ghost use Rattle.scan_accounts.specs.ShiftRuns.{shifting};
+ghost use Rattle.run_cable.specs.HeardRuns.{grown_by, closed, shifted_on, stilled};
+ghost use Rattle.run_cable.specs.KeptRuns.{Becomes, Hears, begun};
+ghost use Rattle.run_cable.specs.EndedRuns.{runs_in, AreInside};
+
+use crate::run_place::RunPlace;
+use bit_list::Bits;
+use std::alloc::{AllocError, Global};
+use std::marker::Model;
+use tap_states::Tap;
+
+// The most clocks, and the most microseconds, that are counted.
+const MOST: u64 = 9_223_372_036_854_775_807;
+
+/// Runs that are over: where their bits stand in the lists of TDI and TDO bits.
+pub struct EndedRuns<'a> {
+    pub places: &'a [RunPlace],
+    pub bits_in: &'a Bits,
+    pub bits_out: &'a Bits,
+}
+
+/// The runs of the clocks that were made since a state of the controllers, and sums, in memory that is taken at once.
+/// If there was no room for a run, what is kept is lost, and this is told.
+#[derive(Drop)]
+pub struct Runs {
+    tap: Tap,
+    ended: Vec<RunPlace>,
+    going: Option<RunPlace>,
+    bits_in: Bits,
+    bits_out: Bits,
+    free: u32,
+    clocks: u64,
+    usec: u64,
+    lost: bool,
+}
+
+impl Model for Runs {
+    ghost use Rattle.std.specs.Prelude.{◌-◌, length, map, vec_capacity};
+    ghost use Rattle.std.specs.Option.{option_map};
+    ghost use Rattle.run_cable.specs.KeptRuns.{Kept, run_at, IsLaid};
+
+    ghost Value = { Kept };
+
+    ghost view = { λ r. record {
+      heard = record {
+        tap = r.tap;
+        ended = map (run_at r.bits_in r.bits_out) r.ended.items;
+        going = option_map (run_at r.bits_in r.bits_out) r.going;
+        clocks = r.clocks;
+        usec = r.usec;
+      };
+      lost = r.lost;
+      bits_left = length r.bits_in - r.free;
+      runs_left = vec_capacity r.ended - length r.ended.items;
+    } };
+
+    ghost invariant = { λ r. IsLaid r.free r.ended.items r.going r.bits_in r.bits_out r.clocks r.usec };
+}
+
+// The registers that shift at a clock before which the controllers stand in this state: true for the instruction
+// registers.
+fn shifting(tap: Tap) -> Option<bool>
+    ensures { result ≡ shifting tap }
+{
+    match tap {
+        Tap::IrShift => Some(true),
+        Tap::DrShift => Some(false),
+        _ => None,
+    }
+}
+
+// Whether a clock with TMS 0 leaves the controllers in this state.
+fn stays(tap: Tap) -> bool
+    ensures { IsTrue result ↔ (next_of tap false ≡ tap) }
+{
+    match tap {
+        Tap::Idle | Tap::DrShift | Tap::DrPause | Tap::IrShift | Tap::IrPause => true,
+        _ => false,
+    }
+}
+
+impl Runs {
+    /// No run and no clock, from the reset state on, and room for so many bits and for so many runs.
+    pub fn new(alloc: Global, bits: u32, runs: usize) -> Result<Runs, AllocError>
+        requires { bits ≤ MOST_BITS }
+        ensures none_lost { IfOk result (λ r. r.lost ≡ false) }
+        ensures clocks { IfOk result (λ r. r.heard.clocks ≡ 0) }
+        ensures usec { IfOk result (λ r. r.heard.usec ≡ 0) }
+    {
+        let ended = Vec::with_capacity(alloc, runs)?;
+        let Ok(bits_in) = Bits::zeros(alloc, bits) else {
+            drop(ended);
+            return Err(AllocError);
+        };
+        let Ok(bits_out) = Bits::zeros(alloc, bits) else {
+            drop(ended);
+            drop(bits_in);
+            return Err(AllocError);
+        };
+        Ok(Runs {
+            tap: Tap::Reset,
+            ended,
+            going: None,
+            bits_in,
+            bits_out,
+            free: 0,
+            clocks: 0,
+            usec: 0,
+            lost: false,
+        })
+    }
+
+    /// No run any more, and the controllers are in this state. The sums stay.
+    pub fn begin(&mut self, tap: Tap)
+        ensures lost { self.new.lost ≡ self.old.lost }
+        ensures heard { self.new.heard ≡ begun tap self.old.heard }
+    {
+        self.tap = tap;
+        self.ended.clear();
+        self.going = None;
+        self.free = 0;
+    }
+
+    /// Whether there was no room for what was heard.
+    pub fn is_lost(&self) -> bool
+        ensures { result ≡ self.now.lost }
+    {
+        self.lost
+    }
+
+    /// What is kept is lost.
+    pub fn lose(&mut self)
+        ensures { self.new ≡ record self.old { lost = true } }
+    {
+        self.lost = true;
+    }
+
+    /// The clocks that were made.
+    pub fn clocks(&self) -> u64
+        ensures value { result ≡ self.now.heard.clocks }
+        ensures few { result < 2 ^ 63 }
+    {
+        self.clocks
+    }
+
+    /// The microseconds that were waited.
+    pub fn usec(&self) -> u64
+        ensures value { result ≡ self.now.heard.usec }
+        ensures few { result < 2 ^ 63 }
+    {
+        self.usec
+    }
+
+    // Adds the lowest n bits of two numbers to the run that goes on, or begins one with them.
+    fn grow(&mut self, ir: bool, tdi: u64, tdo: u64, n: u32)
+        requires { n ≤ 64 }
+        ensures grown { Becomes self.old (grown_by ir (low_bits n tdi) (low_bits n tdo) self.old.heard) self.new }
+        ensures room { self.new.runs_left ≡ self.old.runs_left }
+        ensures fits { self.old.lost ≡ false → n ≤ self.old.bits_left → self.new.lost ≡ false }
+    {
+        if n > self.bits_in.len() - self.free {
+            self.lost = true;
+            return;
+        }
+        self.bits_in.set_word(self.free, n, tdi);
+        self.bits_out.set_word(self.free, n, tdo);
+        let at = match self.going {
+            Some(at) => RunPlace {
+                ir,
+                low: at.low,
+                count: at.count + n,
+            },
+            None => RunPlace {
+                ir,
+                low: self.free,
+                count: n,
+            },
+        };
+        self.going = Some(at);
+        self.free += n;
+    }
+
+    /// The run that goes on, if one does, is over.
+    pub fn close(&mut self)
+        ensures closed { Becomes self.old (closed self.old.heard) self.new }
+        ensures fits { self.old.lost ≡ false → 1 ≤ self.old.runs_left → self.new.lost ≡ false }
+    {
+        let Some(at) = self.going else {
+            return;
+        };
+        if self.ended.len() == self.ended.capacity() {
+            self.lost = true;
+            return;
+        }
+        self.ended.push_reserved(at);
+        self.going = None;
+    }
+
+    // The controllers are in this state after n clocks.
+    fn pass(&mut self, next: Tap, n: u32)
+        ensures passed { Becomes self.old
+            (record self.old.heard { tap = next; clocks = self.old.heard.clocks + n }) self.new }
+        ensures fits { self.old.lost ≡ false → self.old.heard.clocks + n < 2 ^ 63 → self.new.lost ≡ false }
+    {
+        if u64::from(n) > MOST - self.clocks {
+            self.lost = true;
+            return;
+        }
+        self.tap = next;
+        self.clocks += u64::from(n);
+    }
+
+    // The registers that shift at a clock, with the bits of it.
+    fn shift(&mut self, next: Tap, tdi: bool, tdo: bool)
+        ensures shifted { Becomes self.old
+            (shifted_on (shifting self.old.heard.tap) (shifting next) tdi tdo self.old.heard) self.new }
+        ensures fits { self.old.lost ≡ false → 1 ≤ self.old.bits_left → 1 ≤ self.old.runs_left → self.new.lost ≡ false }
+    {
+        if let Some(ir) = shifting(self.tap) {
+            self.grow(ir, u64::from(tdi), u64::from(tdo), 1);
+            if shifting(next).is_none() {
+                self.close();
+            }
+        }
+    }
+
+    /// Hears a clock.
+    pub fn hear(&mut self, tms: bool, tdi: bool, tdo: bool)
+        ensures heard { Hears self.old (Pulses (record { tms = tms; tdi = tdi; tdo = tdo }) ∷ []) self.new }
+        ensures fits { self.old.lost ≡ false → 1 ≤ self.old.bits_left → 1 ≤ self.old.runs_left →
+            self.old.heard.clocks + 1 < 2 ^ 63 → self.new.lost ≡ false }
+    {
+        let next = self.tap.next(tms);
+        self.shift(next, tdi, tdo);
+        self.pass(next, 1);
+    }
+
+    // Adds the lowest n bits of two numbers if a register shifts.
+    fn grow_shifting(&mut self, tdi: u64, tdo: u64, n: u32)
+        requires some { 1 ≤ n }
+        requires most { n ≤ 64 }
+        ensures grown { Becomes self.old
+            (stilled (shifting self.old.heard.tap) (low_bits n tdi) (low_bits n tdo) self.old.heard) self.new }
+        ensures fits { self.old.lost ≡ false → n ≤ self.old.bits_left → self.new.lost ≡ false }
+    {
+        if let Some(ir) = shifting(self.tap) {
+            self.grow(ir, tdi, tdo, n);
+        }
+    }
+
+    /// Hears n clocks with TMS 0, which keeps the controllers in their state: with the lowest bits of two numbers as TDI
+    /// and TDO, the lowest first. What is kept is lost if the controllers leave their state with TMS 0.
+    pub fn hear_still(&mut self, tdi: u64, tdo: u64, n: u32)
+        requires { n ≤ 64 }
+        ensures heard { Hears self.old (pulsed (clocks_with (still_inputs (low_bits n tdi)) (low_bits n tdo))) self.new }
+        ensures fits { self.old.lost ≡ false → next_of self.old.heard.tap false ≡ self.old.heard.tap →
+            n ≤ self.old.bits_left → self.old.heard.clocks + n < 2 ^ 63 → self.new.lost ≡ false }
+    {
+        let tap = self.tap;
+        if !stays(tap) {
+            self.lost = true;
+            return;
+        }
+        if n == 0 {
+            return;
+        }
+        self.grow_shifting(tdi, tdo, n);
+        self.pass(tap, n);
+    }
+
+    /// Hears a wait of n microseconds.
+    pub fn pause(&mut self, n: u32)
+        ensures heard { Hears self.old (Waits n ∷ []) self.new }
+        ensures fits { self.old.lost ≡ false → self.old.heard.usec + n < 2 ^ 63 → self.new.lost ≡ false }
+    {
+        if u64::from(n) > MOST - self.usec {
+            self.lost = true;
+            return;
+        }
+        self.usec += u64::from(n);
+    }
+
+    /// Hears n clocks: with the lowest bits of two numbers as TDI and TDO, the lowest first, and with TMS 0, but TMS 1 at
+    /// the last of them if `last` is true. What is kept is lost if the controllers leave their state with TMS 0.
+    pub fn hear_block(&mut self, tdi: u64, tdo: u64, n: u32, last: bool)
+        requires some { 1 ≤ n }
+        requires most { n ≤ 64 }
+        ensures heard { Hears self.old (pulsed (clocks_with (block_inputs tdi n last) (low_bits n tdo))) self.new }
+    {
+        if !last {
+            self.hear_still(tdi, tdo, n);
+            return;
+        }
+        self.hear_still(tdi, tdo, n - 1);
+        self.hear(true, (tdi >> (n - 1)) % 2 == 1, (tdo >> (n - 1)) % 2 == 1);
+    }
+
+    /// The runs that are over, in order.
+    pub fn ended(&self) -> EndedRuns<'_>
+        ensures runs { runs_in result ≡ self.now.heard.ended }
+        ensures laid { AreInside result }
+    {
+        EndedRuns {
+            places: &self.ended,
+            bits_in: &self.bits_in,
+            bits_out: &self.bits_out,
+        }
+    }
+}
