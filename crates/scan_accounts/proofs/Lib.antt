@@ -1,11 +1,15 @@
 pub mod MadeEvents
 pub mod JoinedRuns
 pub mod WalkedTurns
-pub mod StableRows
+pub mod RowWalks
+pub mod TurnWalks
 pub mod StableTurns
+pub mod AllTurns
 pub mod PinRuns
 pub mod OtherLines
 pub mod StableStarts
+pub mod RunsOrLines
+pub mod FittingRuns
 pub mod Examples
 pub mod ScanRuns
 pub mod ScanPassages

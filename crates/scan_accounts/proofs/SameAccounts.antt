@@ -11,7 +11,7 @@ use Rattle.tap_states.proofs.Shortest.{is_path, path_leads}
 use Rattle.dev_card.specs.declared.desc.Desc.{Desc}
 use Rattle.dev_card.specs.Descriptions.{IsGood}
 use Rattle.dev_card.specs.Card.{Card}
-use Rattle.dev_card.specs.Board.{Clock, board_after, clocks_of}
+use Rattle.dev_card.specs.Board.{board_after, clocks_of}
 use Rattle.dev_card.specs.Clocks.{with_zero, rest_tms, move_inputs, stay_inputs}
 use Rattle.dev_card.specs.Padding.{BaseLengths, base_around, program_bits, Neighbours, in_run, before_run, after_run, base_lengths}
 use Rattle.dev_card.proofs.RunsOfNeighbours.{around_run, run_counted}
@@ -47,7 +47,7 @@ use Rattle.scan_accounts.specs.SameAccounts.{IsSameAccount}
 use Rattle.scan_accounts.proofs.MadeEvents.{turn_events}
 use Rattle.scan_accounts.proofs.OtherLines.{text_is}
 use Rattle.scan_accounts.proofs.JoinedRuns.{tms_of, shifts, runs_joined}
-use Rattle.scan_accounts.proofs.WalkedTurns.{clocks_both, tms_among, tms_of_pulses, tms_with_zero, scan_walks, deeds_walk, stays, clock_not_said}
+use Rattle.scan_accounts.proofs.WalkedTurns.{tms_both, clocks_both, tms_among, tms_of_pulses, tms_with_zero, scan_walks, deeds_walk, stays, clock_not_said}
 use Rattle.scan_accounts.proofs.ScanRuns.{RunsNone, no_runs, quiet_has_none, quiet_rests}
 use Rattle.scan_accounts.proofs.ScanPassages.{as_data, scan_run, one_run, shifted_alone, seen_as_data}
 use Rattle.scan_accounts.proofs.StableTurns.{TurnEnds, deeds_end, stopping, pads_stop, HasStableStops, turn_ends, none_end, beginning_makes_none}
@@ -58,9 +58,6 @@ use Rattle.scan_accounts.proofs.PinRuns.{stable_rests}
 none_both : (xs ys : List Bool) (at : Tap) → RunsNone at xs → RunsNone (walk at xs) ys → RunsNone at (xs ++ ys)
 none_both [] ys at p q = q
 none_both (x ∷ xs) ys at p q = (p.0, none_both xs ys (next_of at x) p.1 q)
-
-tms_both : (xs ys : List Event) → tms_among (xs ++ ys) ≡ tms_among xs ++ tms_among ys
-tms_both xs ys = ap tms_of (clocks_both xs ys) ∙ map-append (λ (k : Clock). k.tms) (clocks_among xs) (clocks_among ys)
 
 quiet_ends : (ms : List Bool) (at : Tap) → shifts at ≡ false → IsQuietWalk at ms → shifts (walk at ms) ≡ false
 quiet_ends [] at e q = e
@@ -292,7 +289,7 @@ module _ (before run_devices after_run : List Desc) (some : 0 < length run_devic
         → SameTurn at (happens (on_board at board) t) (happens (chain_alone at alone) t)
     same_turn (Leads ds place s) loaded at board alone stable w n e kept h q =
         let L : Chain = chain_alone at alone in
-        let a = said_alike loaded at board alone ds stable w n (deeds_end ds L e stable) q.0 h in
+        let a = said_alike loaded at board alone ds stable w n (deeds_end ds L e.0 stable) q.0 h in
         let d = a.same in
         let m : Bool = loaded_by_deeds loaded L ds in
         let after_it : next m place s (chain_alone d.tap_then d.alone_then) = subst (λ l. next m place s l) d.alone_is q.1 in

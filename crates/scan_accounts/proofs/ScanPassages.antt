@@ -61,7 +61,7 @@ module _ (k : Chain) (scan : BoardScan) (stable : is_stable_state k.tap ≡ true
       ap (shift_runs k.tap) (clocks_of_pulses (far_clocks k.far (inputs_of_scan k.tap s)))
       ∙ scan_has_one_run k.tap k.far s stable stops some
 
-  all_counted : length (scan_bits s) ≡ pre + (length bits + post)
+  pub all_counted : length (scan_bits s) ≡ pre + (length bits + post)
   all_counted =
       let a = length-append (replicate pre true) (bits ++ replicate post true) in
       let b = length-append bits (replicate post true) in

@@ -116,7 +116,8 @@ entry_has_none IrPause false e = (refl, (refl, (refl, (refl, (refl, tt)))))
 entry_has_none IrPause true e = (refl, (refl, (refl, (refl, (refl, (refl, tt))))))
 entry_has_none _ ir e = absurd (false≢true e)
 
-stop_has_none : (ir : Bool) (stop : Tap) → is_stable_state stop ≡ true → RunsNone (exit_state ir) (false ∷ path_of (pause_state ir) stop)
+pub stop_has_none : (ir : Bool) (stop : Tap) → is_stable_state stop ≡ true →
+    RunsNone (exit_state ir) (false ∷ path_of (pause_state ir) stop)
 stop_has_none true Reset e = (refl, (refl, (refl, (refl, (refl, (refl, tt))))))
 stop_has_none false Reset e = (refl, (refl, (refl, (refl, (refl, (refl, tt))))))
 stop_has_none true Idle e = (refl, (refl, (refl, (refl, tt))))

@@ -46,6 +46,9 @@ walk_both at (m ∷ ms) ns = walk_both (next_of at m) ms ns
 abbrev pub tms_among : List Event → List Bool
 tms_among es = tms_of (clocks_among es)
 
+pub tms_both : (xs ys : List Event) → tms_among (xs ++ ys) ≡ tms_among xs ++ tms_among ys
+tms_both xs ys = ap tms_of (clocks_both xs ys) ∙ map-append (λ (k : Clock). k.tms) (clocks_among xs) (clocks_among ys)
+
 pub walk_events : (at : Tap) (xs ys : List Event) → walk at (tms_among (xs ++ ys)) ≡ walk (walk at (tms_among xs)) (tms_among ys)
 walk_events at xs ys =
     ap (λ ks. walk at (tms_of ks)) (clocks_both xs ys)

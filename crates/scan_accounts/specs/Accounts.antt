@@ -4,6 +4,7 @@ use Rattle.std.specs.Prelude.{◌≡◌, ℕ, ◌+◌, ◌-◌, ◌&&◌, Bool, 
 use Rattle.std.specs.Bool.{beq}
 use Rattle.dev_card.specs.Padding.{BaseLengths, base_pre_of, base_post_of, program_bits}
 use Rattle.dev_card.specs.Scans.{BoardScan}
+use Rattle.stapl_meaning.specs.Scans.{scan_limit, padding_limit}
 use Rattle.stapl_meaning.specs.Deeds.{Scans, Chain, deed_events, captured_on}
 use Rattle.scan_accounts.specs.ShiftRuns.{ShiftRun, shift_runs}
 use Rattle.scan_accounts.specs.MadeTurns.{MadeTurn, MadePlay, made_events, clocks_among, usec_among}
@@ -41,6 +42,12 @@ passages_of base t =
 -- the same of all turns of a play
 abbrev pub passages : MadePlay → List Passage
 passages play = flat_map (passages_of play.base) play.turns
+
+-- The most bits of a run as it is said: true for a scan, which has its data and the paddings of the program around it.
+-- A walk leaves a shift state at its next clock.
+abbrev pub most_bits : Bool → ℕ
+most_bits true = scan_limit + (padding_limit + padding_limit)
+most_bits false = 1
 
 -- The scans of the instruction registers among passages, or of the data registers.
 abbrev pub scans_among : Bool → List Passage → ℕ

@@ -1,10 +1,10 @@
 //! Laws of the definitions.
-ghost use Rattle.std.specs.Prelude.{◌≡◌, ◌<◌, ◌≤◌, ℕ, pos, true, false, None, Some};
+ghost use Rattle.std.specs.Prelude.{◌≡◌, ◌⊎◌, ◌<◌, ◌≤◌, ℕ, ◌+◌, pos, true, false, None, Some};
 ghost use Rattle.std.specs.Prelude.{List, [], ◌∷◌, ◌++◌, All, flat_map, length, map, codes};
 ghost use Rattle.dev_card.specs.declared.desc.Desc.{Desc};
 ghost use Rattle.dev_card.specs.Descriptions.{IsGood};
 ghost use Rattle.dev_card.specs.FarEnds.{FarEnd, Told};
-ghost use Rattle.dev_card.specs.Padding.{BaseLengths, base_around, Neighbours, in_run, base_lengths};
+ghost use Rattle.dev_card.specs.Padding.{BaseLengths, base_pre_of, base_post_of, base_around, Neighbours, in_run, base_lengths};
 ghost use Rattle.dev_card.specs.Scans.{BoardScan};
 ghost use Rattle.tap_states.specs.declared.Tap.{Tap};
 ghost use Rattle.tap_states.specs.Tap.{is_stable_state};
@@ -21,13 +21,13 @@ ghost use Rattle.stapl_meaning.specs.Deeds.{Chain};
 ghost use Rattle.padded_plays.specs.PaddedRuns.{fresh_board};
 ghost use Rattle.padded_plays.specs.QuietPlays.{no_base, IsQuietPlay};
 ghost use Rattle.pin_lines.specs.PinLines.{pins_in};
-ghost use Rattle.scan_accounts.specs.ShiftRuns.{shift_runs};
+ghost use Rattle.scan_accounts.specs.ShiftRuns.{ShiftRun, shift_runs};
 ghost use Rattle.scan_accounts.specs.LongestRuns.{AreLongestRuns};
-ghost use Rattle.scan_accounts.specs.MadeTurns.{does_scan, MadeTurn, made_play, made_events};
+ghost use Rattle.scan_accounts.specs.MadeTurns.{does_scan, MadeTurn, made_play, made_events, clocks_among};
 ghost use Rattle.scan_accounts.specs.TurnByTurn.{AreNextTurns};
-ghost use Rattle.scan_accounts.specs.Accounts.{Passage, passages, passages_of, account_of, HasScanRun};
+ghost use Rattle.scan_accounts.specs.Accounts.{Passage, passages, passages_of, most_bits, account_of, HasScanRun};
 ghost use Rattle.scan_accounts.specs.SameAccounts.{IsSameAccount};
-ghost use Rattle.scan_accounts.specs.AccountTexts.{account_text, passage_line};
+ghost use Rattle.scan_accounts.specs.AccountTexts.{CutText, account_text, passage_line, turn_lines};
 ghost use Rattle.scan_accounts.specs.PinRuns.{runs_of_pins};
 ghost use Rattle.scan_accounts.specs.AccountExamples.{example_run, instruction_run, one_clock_run, padded_run};
 ghost use Rattle.scan_accounts.specs.AccountExamples.{example_text, scanning_turn, walking_turn, example_play};
@@ -58,6 +58,37 @@ pub fn turns_begin_in_stable_states()
     ensures { (text : List ℕ) (program : List StmtTree) (chosen : List ℕ) (n : ℕ) (base : BaseLengths) (far : FarEnd) →
         IsProgram text program → All (λ (t : MadeTurn). is_stable_state t.from ≡ true)
         (made_play (as_played program) chosen n base far).turns }
+{
+    programs_are_typed();
+}
+
+/// A turn never has both runs and lines of its own: it writes nothing else, or it has no run. So it is the same whether
+/// the lines of its runs are written before what else it writes, or after it.
+pub fn a_turn_has_runs_or_lines()
+    ensures either { (text : List ℕ) (program : List StmtTree) (chosen : List ℕ) (n : ℕ) (base : BaseLengths)
+        (far : FarEnd) → IsProgram text program → All (λ (t : MadeTurn). (events_text false [] t.events ≡ [])
+        ⊎ (shift_runs t.from (clocks_among t.events) ≡ [])) (made_play (as_played program) chosen n base far).turns }
+    ensures order { (text : List ℕ) (program : List StmtTree) (chosen : List ℕ) (n : ℕ) (base : BaseLengths)
+        (far : FarEnd) (cut : CutText) → IsProgram text program → All (λ (t : MadeTurn). turn_lines cut base t
+        ≡ events_text false [] t.events ++ flat_map (passage_line cut) (passages_of base t))
+        (made_play (as_played program) chosen n base far).turns }
+{
+    programs_are_typed();
+}
+
+/// What is said of the run of a scan has no more bits than a scan may have and two paddings of the program. A run of
+/// any other turn, as of a STATE through DRSHIFT, has one bit. On the chain a run has at most the base padding more.
+/// Each run has as many bits out as bits in.
+pub fn runs_fit_the_room()
+    ensures said { (text : List ℕ) (program : List StmtTree) (chosen : List ℕ) (n : ℕ) (base : BaseLengths)
+        (far : FarEnd) → IsProgram text program → All (λ (p : Passage). length p.run.bits_in ≤ most_bits p.scan)
+        (passages (made_play (as_played program) chosen n base far)) }
+    ensures whole { (text : List ℕ) (program : List StmtTree) (chosen : List ℕ) (n : ℕ) (base : BaseLengths)
+        (far : FarEnd) → IsProgram text program → All (λ (t : MadeTurn). All (λ (run : ShiftRun). length run.bits_in
+        ≤ most_bits true + (base_pre_of run.ir base + base_post_of run.ir base))
+        (shift_runs t.from (clocks_among t.events))) (made_play (as_played program) chosen n base far).turns }
+    ensures out { (at : Tap) (clocks : List Clock) →
+        All (λ (run : ShiftRun). length run.bits_out ≡ length run.bits_in) (shift_runs at clocks) }
 {
     programs_are_typed();
 }
