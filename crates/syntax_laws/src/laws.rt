@@ -8,13 +8,13 @@ ghost use Rattle.stapl_lexer.specs.Depth.{is_operator, is_condition, count_of};
 ghost use Rattle.stapl_lexer.specs.PieceFaults.{AreGoodTokens};
 ghost use Rattle.stapl_syntax.specs.declared.signs.UnOp.{UnOp};
 ghost use Rattle.stapl_syntax.specs.Symbols.{Symbol, symbols_of};
-ghost use Rattle.stapl_syntax.specs.Trees.{ExprTree, element, unary, binary, abs, StmtTree};
-ghost use Rattle.stapl_syntax.specs.Expressions.{operator, name, function, left_square, right_square};
+ghost use Rattle.stapl_syntax.specs.Trees.{ExprTree, element, unary, binary, abs, ArrayTree, StmtTree};
+ghost use Rattle.stapl_syntax.specs.Expressions.{operator, name, function, left_square, right_square, IsExpr, IsArray};
 ghost use Rattle.stapl_syntax.specs.Statements.{Means, IsPieceStatement};
-ghost use Rattle.canonical_text.specs.Printable.{is_integer_body};
+ghost use Rattle.canonical_text.specs.Printable.{is_integer_body, openings};
 ghost use Rattle.canonical_text.specs.PrintedTokens.{unary_symbol};
 ghost use Rattle.syntax_laws.specs.Sizes.{operators_in, conditions_in, nesting_in};
-ghost use Rattle.syntax_laws.specs.Brackets.{printed, in_brackets, HoldsOperand};
+ghost use Rattle.syntax_laws.specs.Brackets.{printed, printed_array, in_brackets, HoldsOperand};
 
 /// The depth rule counts exactly the operators of a statement, with one operand and with two, and its conditions: so
 /// many tokens of a piece are one as the statement has that they mean. In a declaration of an INTEGER, signs of initial
@@ -50,4 +50,26 @@ pub fn operands_are_bracketed_only_if_needed()
     ensures index { (v : List ℕ) (x : ExprTree) →
         printed (element v x) ≡ name v ∷ left_square ∷ (printed x ++ right_square ∷ []) }
     ensures taken { (x : ExprTree) → printed (abs x) ≡ function functions.Abs ∷ in_brackets (printed x) }
+{}
+
+/// Of all symbols that are an expression, those that are printed for it have the fewest brackets, and no others have as
+/// few. It is the same of an array.
+pub fn printed_expressions_have_the_fewest_brackets()
+    ensures fewest { (s : List Symbol) (e : ExprTree) → IsExpr 10 s e → openings (printed e) ≤ openings s }
+    ensures only { (s : List Symbol) (e : ExprTree) → IsExpr 10 s e → openings s ≤ openings (printed e) →
+        s ≡ printed e }
+    ensures array_fewest { (s : List Symbol) (a : ArrayTree) → IsArray s a →
+        openings (printed_array a) ≤ openings s }
+    ensures array_only { (s : List Symbol) (a : ArrayTree) → IsArray s a → openings s ≤ openings (printed_array a) →
+        s ≡ printed_array a }
+{}
+
+/// No pair of brackets that is printed for an expression can be left out, however deep it stands: without it the
+/// symbols are another expression, or none. The two need not belong together: it is any bracket that opens, and any
+/// later one that closes. It is the same of an array.
+pub fn no_brackets_can_be_left_out()
+    ensures expression { (e : ExprTree) (before own after : List Symbol) →
+        printed e ≡ before ++ (in_brackets own ++ after) → IsExpr 10 (before ++ (own ++ after)) e → ⊥ }
+    ensures array { (a : ArrayTree) (before own after : List Symbol) →
+        printed_array a ≡ before ++ (in_brackets own ++ after) → IsArray (before ++ (own ++ after)) a → ⊥ }
 {}
