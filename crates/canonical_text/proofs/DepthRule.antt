@@ -38,7 +38,7 @@ use Rattle.canonical_text.specs.Spellable.{is_spellable}
 use Rattle.canonical_text.specs.PrintedStatements.{signed_tokens, body_tokens, label_tokens, stmt_tokens}
 use Rattle.canonical_text.specs.Printable.{sign_terminal, symbol_terminal, conditions, operators, one_if, weight, openings, closings, OpensMany, is_integer_body, CanBePrinted}
 use Rattle.canonical_text.proofs.Grammar.{symbols}
-use Rattle.canonical_text.proofs.Kept.{LeavesOut, NeedsSigned, means_kept}
+use Rattle.canonical_text.proofs.Kept.{LeavesOpen, NeedsSigned, means_kept}
 use Rattle.canonical_text.proofs.BodyNesting.{no_deeper}
 
 -- ---- a token is the terminal that is seen of it
@@ -354,13 +354,13 @@ integer_begins text tokens label _ are short e is = absurd cc
 
 -- ---- the depth rule
 
-conditions_out : LeavesOut conditions
+conditions_out : LeavesOpen conditions (λ (m n : ℕ). m ≡ n)
 unfolding symbol_terminal sign_terminal is_condition
-conditions_out = record { left = refl; right = refl; between = refl; unit = refl }
+conditions_out = record { wider = λ a b e. omega (arith, e); between = refl; unit = refl }
 
-operators_out : LeavesOut operators
+operators_out : LeavesOpen operators (λ (m n : ℕ). m ≡ n)
 unfolding symbol_terminal sign_terminal is_operator
-operators_out = record { left = refl; right = refl; between = refl; unit = refl }
+operators_out = record { wider = λ a b e. omega (arith, e); between = refl; unit = refl }
 
 equal_sums : (a b c d : ℕ) → a ≡ b → c ≡ d → a + c ≡ b + d
 equal_sums a b c d e f = omega arith
@@ -377,13 +377,13 @@ signed_conditions s z is = printed z ∙ sym (written is)
     written unsigned = refl
     written minus = refl
 
-needs_conditions : (b : BodyTree) → NeedsSigned conditions conditions_out (λ (m n : ℕ). m ≡ n) (λ n. refl) equal_sums b
+needs_conditions : (b : BodyTree) → NeedsSigned conditions (λ (m n : ℕ). m ≡ n) conditions_out (λ n. refl) equal_sums b
 needs_conditions (integer v z) = signed_conditions
 needs_conditions (integer_array v n zs) = signed_conditions
 needs_conditions (if_then e b) = needs_conditions b
 needs_conditions _ = tt
 
-needs_none : (s : List Symbol) (b : BodyTree) → IsBody s b → is_integer_body b ≡ false → NeedsSigned operators operators_out (λ (m n : ℕ). m ≡ n) (λ n. refl) equal_sums b
+needs_none : (s : List Symbol) (b : BodyTree) → IsBody s b → is_integer_body b ≡ false → NeedsSigned operators (λ (m n : ℕ). m ≡ n) operators_out (λ n. refl) equal_sums b
 needs_none s (integer v z) is e = absurd cc
 needs_none s (integer_array v n zs) is e = absurd cc
 needs_none s (if_then e b) is no_integer = needs_none is.1 b is.6 (conditional b is.5)
@@ -407,7 +407,7 @@ not_too_deep text piece tokens st good short sees can (Brackets many) =
     can.shallow (no_deeper can.writing st can.means (subst OpensMany sees (opens_of text tokens (tokens_seen text piece tokens good) many)))
 not_too_deep text piece tokens st good short sees can (Conditions lt) =
     let few = can.conditions_few in
-    let same = means_kept conditions conditions_out (λ (m n : ℕ). m ≡ n) (λ n. refl) equal_sums can.writing st (needs_conditions st.body) can.means in
+    let same = means_kept conditions (λ (m n : ℕ). m ≡ n) conditions_out (λ n. refl) equal_sums can.writing st (needs_conditions st.body) can.means in
     omega (arith, lt, few, count_seen is_condition text tokens (tokens_seen text piece tokens good), ap (weight conditions) sees, same)
 not_too_deep text piece tokens st good short sees can (Operators plain lt) = by (is_integer_body st.body) refl
   where
@@ -417,7 +417,7 @@ not_too_deep text piece tokens st good short sees can (Operators plain lt) = by 
     by false i =
         let own = body_of can.writing st.label st.body can.means in
         let few = can.operators_few i in
-        let same = means_kept operators operators_out (λ (m n : ℕ). m ≡ n) (λ n. refl) equal_sums can.writing st (needs_none own.0 st.body own.1 i) can.means in
+        let same = means_kept operators (λ (m n : ℕ). m ≡ n) operators_out (λ n. refl) equal_sums can.writing st (needs_none own.0 st.body own.1 i) can.means in
         omega (arith, lt, few, count_seen is_operator text tokens (tokens_seen text piece tokens good), ap (weight operators) sees, same)
 
 not_less : (m n : ℕ) → (n < m → ⊥) → m ≤ n

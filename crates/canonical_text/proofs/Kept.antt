@@ -1,7 +1,6 @@
--- What is printed for a statement holds as many symbols of a kind as each other writing of it, brackets, commas and HZ
--- left aside.
-use Rattle.std.proofs.Common.{◌≡◌, ℕ, ℤ, ◌+◌, ◌-◌, Bool, true, false, List, [], ◌∷◌, ◌++◌, Option, Some, None, inl, inr, refl, sym, ap, subst, ◌∙◌, arith}
-use Rattle.std.specs.Prelude.{nat_lt}
+-- What is printed for a statement holds as many symbols of a kind as each other writing of it, commas and HZ left aside,
+-- and no more brackets.
+use Rattle.std.proofs.Common.{◌≡◌, ℕ, ℤ, ◌+◌, ◌-◌, ◌≤◌, suc, Bool, true, false, List, [], ◌∷◌, ◌++◌, Option, Some, None, inl, inr, refl, sym, ap, subst, ◌∙◌, arith}
 use Rattle.stapl_lexer.specs.declared.terminal.BinOp.TheVariants.{Subtract}
 use Rattle.stapl_lexer.specs.declared.terminal.JoinWord.TheVariants as joins
 use Rattle.stapl_lexer.specs.declared.terminal.Mark.TheVariants as marks
@@ -27,10 +26,11 @@ use Rattle.stapl_syntax.specs.Parts.{frequency_part}
 use Rattle.stapl_syntax.specs.Statements.{outer, inner, simple, if_word, port, IsBody, IsLabelled, Means}
 use Rattle.std.proofs.lemmas.Bool.{and_parts}
 use Rattle.canonical_text.specs.PrintedTokens.{Printed, Seen, unary_symbol}
-use Rattle.canonical_text.specs.PrintedStatements.{bracketed_if, expr_tokens, array_tokens, signed_tokens, bit_tokens, choice_tokens, print_part_tokens}
+use Rattle.canonical_text.specs.PrintedStatements.{expr_tokens, array_tokens, signed_tokens, bit_tokens, choice_tokens, print_part_tokens}
 use Rattle.canonical_text.specs.PrintedStatements.{export_tokens, separated_tokens, states_tokens, part_tokens, body_tokens, label_tokens, stmt_tokens}
 use Rattle.canonical_text.specs.Printable.{one_if, weight}
 use Rattle.canonical_text.proofs.Grammar.{symbols, symbols-append}
+use Rattle.canonical_text.proofs.Standing.{sides_at, Stands, plain, looser, stands}
 use Rattle.canonical_text.proofs.Statements.{signless}
 
 pub weight-append : (f : Symbol → Bool) (a b : List Symbol) → weight f (a ++ b) ≡ weight f a + weight f b
@@ -41,34 +41,21 @@ weight-append f (t ∷ a) b = omega (arith, weight-append f a b)
 pub weight-printed : (f : Symbol → Bool) (a b : List Printed) → weight f (symbols (a ++ b)) ≡ weight f (symbols a) + weight f (symbols b)
 weight-printed f a b = ap (weight f) (symbols-append a b) ∙ weight-append f (symbols a) (symbols b)
 
--- a test that symbols fail which the grammar leaves open
-pub record LeavesOut (f : Symbol → Bool) : Type 0 where
-  pub left : f left_round ≡ false
-  pub right : f right_round ≡ false
+-- a test of symbols, and a relation of counts, that leave open what the grammar does: a pair of brackets more in the
+-- other writing, commas, and HZ
+pub record LeavesOpen (f : Symbol → Bool) (R : ℕ → ℕ → Type 0) : Type 0 where
+  pub wider : (a b : ℕ) → R a b → R a (one_if (f left_round) + (b + one_if (f right_round)))
   pub between : f comma ≡ false
   pub unit : f hz ≡ false
 
-module _ (f : Symbol → Bool) (out : LeavesOut f) (R : ℕ → ℕ → Type 0) (same : (n : ℕ) → R n n)
+module _ (f : Symbol → Bool) (R : ℕ → ℕ → Type 0) (out : LeavesOpen f R) (same : (n : ℕ) → R n n)
     (sum : (a b c d : ℕ) → R a b → R c d → R (a + c) (b + d)) where
-  W : List Printed → ℕ
-  W ts = weight f (symbols ts)
-
   moved : (a b c d : ℕ) → c ≡ a → d ≡ b → R a b → R c d
   moved a b c d e g r = subst (λ (k : ℕ). R k d) (sym e) (subst (R a) (sym g) r)
 
   -- a symbol, and then more
   then : (k a b : ℕ) → R a b → R (k + a) (k + b)
   then k a b r = sum k k a b (same k) r
-
-  no_left : one_if (f left_round) ≡ 0
-  no_left = ap one_if out.left
-
-  no_right : one_if (f right_round) ≡ 0
-  no_right = ap one_if out.right
-
-  bracketed : (b : Bool) (ts : List Printed) → weight f (symbols (bracketed_if b ts)) ≡ weight f (symbols ts)
-  bracketed true ts = omega (arith, weight-printed f ts (Seen right_round ∷ []), no_left, no_right)
-  bracketed false ts = refl
 
   -- the insides between a first symbol and a last one, and what stands before them
   enclosed : (t : Symbol) (ts : List Printed) (s : List Symbol) → R (weight f (symbols ts)) (weight f s) →
@@ -84,16 +71,32 @@ module _ (f : Symbol → Bool) (out : LeavesOut f) (R : ℕ → ℕ → Type 0) 
       moved (weight f (symbols ts) + weight f (symbols us)) (weight f a + weight f b) _ _ (weight-printed f ts us) (weight-append f a b)
       (sum (weight f (symbols ts)) (weight f a) (weight f (symbols us)) (weight f b) r q)
 
+  ten : 10 ≤ 10
+  ten = omega arith
+
+  -- a pair of brackets around an expression: it is printed there, or it is one more
+  around : (n : ℕ) (e : ExprTree) (s : List Symbol) → Stands n e →
+      R (weight f (symbols (expr_tokens 10 e))) (weight f s) →
+      R (weight f (symbols (expr_tokens n e))) (weight f (left_round ∷ (s ++ right_round ∷ [])))
+  around n e s (plain is) r =
+      moved _ _ _ _ (ap (λ v. weight f (symbols v)) is) (omega (arith, weight-append f s (right_round ∷ [])))
+      (out.wider _ _ r)
+  around n e s (looser is) r =
+      moved _ _ _ _ (ap (λ v. weight f (symbols v)) is) refl
+      (then (one_if (f left_round)) _ _ (enclosed right_round (expr_tokens 10 e) s r))
+
   mutual
     unfolding unary_symbol
 
-    pub expr_kept : (m n : ℕ) (s : List Symbol) (e : ExprTree) → IsExpr m s e → R (weight f (symbols (expr_tokens n e))) (weight f s)
-    expr_kept _ n _ _ (of_unary {s = s} {e = e} d) = unary_kept n s e d
-    expr_kept _ n _ _ (tighter {n = m} {s = s} {e = e} d) = expr_kept m n s e d
-    expr_kept _ n _ _ (of_binary {n = m} {a = a} {b = b} {x = x} {y = y} op level left right) =
-        moved _ _ _ _ (bracketed (nat_lt n (level_of op)) (expr_tokens (level_of op) x ++ Seen (operator op) ∷ expr_tokens (level_of op - 1) y)) refl
+    pub expr_kept : (m n : ℕ) (s : List Symbol) (e : ExprTree) → IsExpr m s e → m ≤ n →
+        R (weight f (symbols (expr_tokens n e))) (weight f s)
+    expr_kept _ n _ _ (of_unary {s = s} {e = e} d) le = unary_kept n s e d
+    expr_kept _ n _ _ (tighter {n = m} {s = s} {e = e} d) le = expr_kept m n s e d (omega arith)
+    expr_kept _ n _ _ (of_binary {n = m} {a = a} {b = b} {x = x} {y = y} op level left right) le =
+        moved _ _ _ _ (ap (λ v. weight f (symbols v)) (sides_at n op x y (omega (arith, level)))) refl
         (joined (expr_tokens (level_of op) x) (Seen (operator op) ∷ expr_tokens (level_of op - 1) y) a (operator op ∷ b)
-        (expr_kept _ (level_of op) a x left) (then (one_if (f (operator op))) _ _ (expr_kept m (level_of op - 1) b y right)))
+        (expr_kept (suc m) (level_of op) a x left (omega (arith, level)))
+        (then (one_if (f (operator op))) _ _ (expr_kept m (level_of op - 1) b y right (omega (arith, level)))))
 
     pub unary_kept : (n : ℕ) (s : List Symbol) (e : ExprTree) → IsUnary s e → R (weight f (symbols (expr_tokens n e))) (weight f s)
     unary_kept n _ _ (negation {s = s} {e = e} d) = then (one_if (f (operator Subtract))) _ _ (unary_kept 0 s e d)
@@ -105,24 +108,24 @@ module _ (f : Symbol → Bool) (out : LeavesOut f) (R : ℕ → ℕ → Type 0) 
     primary_kept n _ _ of_number = same _
     primary_kept n _ _ (of_cell {s = s} {e = e} d) = cell_kept n s e d
     primary_kept n _ _ (of_brackets {s = s} {e = e} d) =
-        moved _ _ _ _ refl (omega (arith, weight-append f s (right_round ∷ []), no_left, no_right)) (expr_kept 10 n s e d)
-    primary_kept n _ _ (of_abs {s = s} {e = e} d) = then _ _ _ (then _ _ _ (enclosed right_round (expr_tokens 10 e) s (expr_kept 10 10 s e d)))
+        around n e s (stands n e) (expr_kept 10 10 s e d ten)
+    primary_kept n _ _ (of_abs {s = s} {e = e} d) = then _ _ _ (then _ _ _ (enclosed right_round (expr_tokens 10 e) s (expr_kept 10 10 s e d ten)))
     primary_kept n _ _ (of_array {s = s} {a = a} d) = then _ _ _ (then _ _ _ (enclosed right_round (array_tokens a) s (array_kept s a d)))
 
     pub cell_kept : (n : ℕ) (s : List Symbol) (e : ExprTree) → IsCell s e → R (weight f (symbols (expr_tokens n e))) (weight f s)
     cell_kept n _ _ of_scalar = same _
-    cell_kept n _ _ (of_element {s = s} {e = e} d) = then _ _ _ (then _ _ _ (enclosed right_square (expr_tokens 10 e) s (expr_kept 10 10 s e d)))
+    cell_kept n _ _ (of_element {s = s} {e = e} d) = then _ _ _ (then _ _ _ (enclosed right_square (expr_tokens 10 e) s (expr_kept 10 10 s e d ten)))
 
     pub target_kept : (s : List Symbol) (a : ArrayTree) → IsTarget s a → R (weight f (symbols (array_tokens a))) (weight f s)
     target_kept _ _ of_whole = same _
     target_kept _ _ (of_range {a = a} {b = b} {x = x} {y = y} c d) = then _ _ _ (then _ _ _
         (joined (expr_tokens 10 x) (Seen dots ∷ (expr_tokens 10 y ++ Seen right_square ∷ [])) a (dots ∷ (b ++ right_square ∷ []))
-        (expr_kept 10 10 a x c) (then _ _ _ (enclosed right_square (expr_tokens 10 y) b (expr_kept 10 10 b y d)))))
+        (expr_kept 10 10 a x c ten) (then _ _ _ (enclosed right_square (expr_tokens 10 y) b (expr_kept 10 10 b y d ten)))))
 
     pub array_kept : (s : List Symbol) (a : ArrayTree) → IsArray s a → R (weight f (symbols (array_tokens a))) (weight f s)
     array_kept _ _ of_literal = same _
     array_kept _ _ (of_target {s = s} {a = a} d) = target_kept s a d
-    array_kept _ _ (of_expr {s = s} {e = e} d) = then _ _ _ (then _ _ _ (enclosed right_round (expr_tokens 10 e) s (expr_kept 10 10 s e d)))
+    array_kept _ _ (of_expr {s = s} {e = e} d) = then _ _ _ (then _ _ _ (enclosed right_round (expr_tokens 10 e) s (expr_kept 10 10 s e d ten)))
 
   bit_kept : (s : List Symbol) (b : Bool) → IsBit s b → R (weight f (symbols (bit_tokens b))) (weight f s)
   bit_kept _ _ zero_bit = same _
@@ -135,11 +138,11 @@ module _ (f : Symbol → Bool) (out : LeavesOut f) (R : ℕ → ℕ → Type 0) 
 
   print_part_kept : (s : List Symbol) (x : PartTree) → IsPrintPart s x → R (weight f (symbols (print_part_tokens x))) (weight f s)
   print_part_kept _ _ of_string = same _
-  print_part_kept _ _ (of_value {s = s} {e = e} d) = expr_kept 10 10 s e d
-  print_part_kept _ _ (of_character {s = s} {e = e} d) = then _ _ _ (then _ _ _ (enclosed right_round (expr_tokens 10 e) s (expr_kept 10 10 s e d)))
+  print_part_kept _ _ (of_value {s = s} {e = e} d) = expr_kept 10 10 s e d ten
+  print_part_kept _ _ (of_character {s = s} {e = e} d) = then _ _ _ (then _ _ _ (enclosed right_round (expr_tokens 10 e) s (expr_kept 10 10 s e d ten)))
 
   export_kept : (s : List Symbol) (x : ExportTree) → IsExported s x → R (weight f (symbols (export_tokens x))) (weight f s)
-  export_kept _ _ (of_exported_value {s = s} {e = e} d) = expr_kept 10 10 s e d
+  export_kept _ _ (of_exported_value {s = s} {e = e} d) = expr_kept 10 10 s e d ten
   export_kept _ _ (of_exported_array {s = s} {a = a} d) = array_kept s a d
 
   no_comma : one_if (f comma) ≡ 0
@@ -191,7 +194,7 @@ module _ (f : Symbol → Bool) (out : LeavesOut f) (R : ℕ → ℕ → Type 0) 
   part_kept a_literal v s k is = moved _ _ _ _ refl (ap (weight f) is) (same _)
   part_kept a_check_word v s k is = moved _ _ _ _ refl (ap (weight f) is) (same _)
   part_kept a_choice c s k is = choice_kept is
-  part_kept an_expr e s k is = expr_kept 10 10 s e is
+  part_kept an_expr e s k is = expr_kept 10 10 s e is ten
   part_kept an_array a s k is = array_kept s a is
   part_kept a_cell e s k is = cell_kept 10 s e is
   part_kept a_target a s k is = target_kept s a is
@@ -268,7 +271,7 @@ module _ (f : Symbol → Bool) (out : LeavesOut f) (R : ℕ → ℕ → Type 0) 
   body_kept s (if_then e b) q is =
       moved _ _ _ _ refl (ap (weight f) is.2)
       (then (one_if (f if_word)) _ _ (joined (expr_tokens 10 e) (Seen (join joins.Then) ∷ body_tokens b) is.0 (join joins.Then ∷ is.1)
-      (expr_kept 10 10 is.0 e is.3) (then (one_if (f (join joins.Then))) _ _ (body_kept is.1 b q is.6))))
+      (expr_kept 10 10 is.0 e is.3 ten) (then (one_if (f (join joins.Then))) _ _ (body_kept is.1 b q is.6))))
   body_kept s (for_loop v a b c) q is = by_part (after (simple simple_words.For) for_part) refl (v, (a, (b, c))) s is
   body_kept s (next v) q is = by_part (after (simple simple_words.Next) a_name) refl v s is
   body_kept s (push e) q is = by_part (after (simple simple_words.Push) an_expr) refl e s is

@@ -8,6 +8,7 @@ pub mod ListReads
 pub mod CheckReads
 pub mod PrintedSegments
 pub mod Pieces
+pub mod Standing
 pub mod Kept
 pub mod Heights
 pub mod Nesting

@@ -23,7 +23,7 @@ use Rattle.canonical_text.specs.Spellable.{is_held, is_spellable_sign, is_spella
 use Rattle.canonical_text.specs.InitialValues.{HoldsValues, HoldsInitialValues}
 use Rattle.canonical_text.specs.Printable.{one_if, weight}
 use Rattle.canonical_text.proofs.Grammar.{symbols}
-use Rattle.canonical_text.proofs.Kept.{weight-append, LeavesOut, NeedsSigned, means_kept}
+use Rattle.canonical_text.proofs.Kept.{weight-append, LeavesOpen, NeedsSigned, means_kept}
 use Rattle.canonical_text.proofs.Spelled.{held_cast}
 use Rattle.canonical_text.proofs.TokenReads.{held_value}
 
@@ -95,11 +95,11 @@ Follows a b = b ≡ 0 → a ≡ 0
 follows_sum : (a b c d : ℕ) → Follows a b → Follows c d → Follows (a + c) (b + d)
 follows_sum a b c d r q e = omega (arith, r (omega (arith, e)), q (omega (arith, e)))
 
-spelled_out : LeavesOut unspelled
+spelled_out : LeavesOpen unspelled Follows
 unfolding is_spellable is_spellable_sign word_terminal
-spelled_out = record { left = refl; right = refl; between = refl; unit = refl }
+spelled_out = record { wider = λ a b r e. r (omega (arith, e)); between = refl; unit = refl }
 
-needs_spelled : (b : BodyTree) → NeedsSigned unspelled spelled_out Follows (λ n e. e) follows_sum b
+needs_spelled : (b : BodyTree) → NeedsSigned unspelled Follows spelled_out (λ n e. e) follows_sum b
 needs_spelled (integer v z) = λ s z is e. signed_ok z (signed_fits is e)
 needs_spelled (integer_array v n zs) = λ s z is e. signed_ok z (signed_fits is e)
 needs_spelled (if_then e b) = needs_spelled b
@@ -108,7 +108,7 @@ needs_spelled _ = tt
 -- what is printed for a statement can be spelled
 pub printed_spelled : (s : List Symbol) (st : StmtTree) → Means s st → list_all is_spellable s ≡ true → list_all is_spellable (symbols (stmt_tokens st)) ≡ true
 printed_spelled s st is all =
-    all_spelled (symbols (stmt_tokens st)) (means_kept unspelled spelled_out Follows (λ n e. e) follows_sum s st (needs_spelled st.body) is (none_unspelled s all))
+    all_spelled (symbols (stmt_tokens st)) (means_kept unspelled Follows spelled_out (λ n e. e) follows_sum s st (needs_spelled st.body) is (none_unspelled s all))
 
 -- ---- initial values are 32-bit integers with a sign
 

@@ -12,7 +12,7 @@ use Rattle.canonical_text.specs.PrintedStatements.{expr_tokens}
 use Rattle.canonical_text.proofs.Grammar.{symbols, symbols-append}
 use Rattle.syntax_laws.specs.Brackets.{printed, in_brackets, HoldsOperand, bare, bracketed}
 use Rattle.syntax_laws.proofs.Fewest.{none_left_out}
-use Rattle.syntax_laws.proofs.Standing.{sides_alone, Stands, plain, looser, stands}
+use Rattle.canonical_text.proofs.Standing.{sides_alone, Stands, plain, looser, stands}
 
 -- two operands and their operator
 sides_are : (op : BinOp) (left right : ExprTree) → printed (binary op left right)

@@ -21,7 +21,7 @@ use Rattle.canonical_text.specs.Printable.{sign_terminal, symbol_terminal, opens
 use Rattle.canonical_text.proofs.Grammar.{symbols, symbols-append}
 use Rattle.canonical_text.proofs.Kept.{weight-append}
 use Rattle.syntax_laws.specs.Brackets.{printed, printed_array, in_brackets}
-use Rattle.syntax_laws.proofs.Standing.{sides_at, Stands, plain, looser, stands}
+use Rattle.canonical_text.proofs.Standing.{sides_at, Stands, plain, looser, stands}
 
 -- ---- whatever is counted, if opening brackets are
 
@@ -160,7 +160,7 @@ one_less before own after =
     let all = weight-append opens (in_brackets own) after in
     omega (arith, less, bare, whole, rest, all)
 
-left_out : (p before own after : List Symbol) → p ≡ before ++ (in_brackets own ++ after) →
+pub left_out : (p before own after : List Symbol) → p ≡ before ++ (in_brackets own ++ after) →
     openings p ≤ openings (before ++ (own ++ after)) → ⊥
 left_out p before own after e le = let less = one_less before own after in omega (arith, ap openings e, le, less)
 

@@ -16,7 +16,7 @@ use Rattle.canonical_text.specs.PrintedStatements.{signed_tokens}
 use Rattle.canonical_text.specs.Printable.{sign_terminal, symbol_terminal, conditions, operators, weight, is_integer_body, CanBePrinted}
 use Rattle.canonical_text.proofs.Grammar.{symbols}
 use Rattle.canonical_text.proofs.Heights.{Reaches, reaches_past, many_by_depth}
-use Rattle.canonical_text.proofs.Kept.{LeavesOut, NeedsSigned, body_kept}
+use Rattle.canonical_text.proofs.Kept.{LeavesOpen, NeedsSigned, body_kept}
 use Rattle.canonical_text.proofs.BodyNesting.{body_peak, body_goes}
 use Rattle.canonical_text.proofs.PartNesting.{GoesTo}
 use Rattle.canonical_text.proofs.PieceStatements.{of_other}
@@ -25,13 +25,13 @@ use Rattle.syntax_laws.specs.Sizes.{operators_in, conditions_in, nesting_in}
 use Rattle.syntax_laws.proofs.Counted.{IsPlain, body_operators, body_conditions}
 use Rattle.syntax_laws.proofs.Nested.{body_within}
 
-conditions_out : LeavesOut conditions
+conditions_out : LeavesOpen conditions (λ (m n : ℕ). m ≡ n)
 unfolding symbol_terminal sign_terminal is_condition
-conditions_out = record { left = refl; right = refl; between = refl; unit = refl }
+conditions_out = record { wider = λ a b e. omega (arith, e); between = refl; unit = refl }
 
-operators_out : LeavesOut operators
+operators_out : LeavesOpen operators (λ (m n : ℕ). m ≡ n)
 unfolding symbol_terminal sign_terminal is_operator
-operators_out = record { left = refl; right = refl; between = refl; unit = refl }
+operators_out = record { wider = λ a b e. omega (arith, e); between = refl; unit = refl }
 
 equal_sums : (a b c d : ℕ) → a ≡ b → c ≡ d → a + c ≡ b + d
 equal_sums a b c d e f = omega arith
@@ -48,7 +48,7 @@ signed_conditions s z is = printed z ∙ sym (written is)
     written unsigned = refl
     written minus = refl
 
-needs_conditions : (b : BodyTree) → NeedsSigned conditions conditions_out (λ (m n : ℕ). m ≡ n) (λ n. refl) equal_sums b
+needs_conditions : (b : BodyTree) → NeedsSigned conditions (λ (m n : ℕ). m ≡ n) conditions_out (λ n. refl) equal_sums b
 needs_conditions (integer v z) = signed_conditions
 needs_conditions (integer_array v n zs) = signed_conditions
 needs_conditions (if_then e b) = needs_conditions b
@@ -59,7 +59,7 @@ inner_plain (integer v z) e = absurd cc
 inner_plain (integer_array v n zs) e = absurd cc
 inner_plain _ e = refl
 
-needs_none : (s : List Symbol) (b : BodyTree) → IsBody s b → is_integer_body b ≡ false → NeedsSigned operators operators_out (λ (m n : ℕ). m ≡ n) (λ n. refl) equal_sums b
+needs_none : (s : List Symbol) (b : BodyTree) → IsBody s b → is_integer_body b ≡ false → NeedsSigned operators (λ (m n : ℕ). m ≡ n) operators_out (λ n. refl) equal_sums b
 needs_none s (integer v z) is e = absurd cc
 needs_none s (integer_array v n zs) is e = absurd cc
 needs_none s (if_then e b) is plain = needs_none is.1 b is.6 (inner_plain b is.5)
@@ -94,11 +94,11 @@ after_label s (Some v) b is = record {
 
 written_operators : (s : List Symbol) (b : BodyTree) → IsBody s b → is_integer_body b ≡ false → weight operators s ≡ operators_in b
 written_operators s b is plain =
-    sym (body_kept operators operators_out (λ (m n : ℕ). m ≡ n) (λ n. refl) equal_sums s b (needs_none s b is plain) is) ∙ body_operators b (plain_of s b is plain)
+    sym (body_kept operators (λ (m n : ℕ). m ≡ n) operators_out (λ n. refl) equal_sums s b (needs_none s b is plain) is) ∙ body_operators b (plain_of s b is plain)
 
 written_conditions : (s : List Symbol) (b : BodyTree) → IsBody s b → weight conditions s ≡ conditions_in b
 written_conditions s b is =
-    sym (body_kept conditions conditions_out (λ (m n : ℕ). m ≡ n) (λ n. refl) equal_sums s b (needs_conditions b) is) ∙ body_conditions b
+    sym (body_kept conditions (λ (m n : ℕ). m ≡ n) conditions_out (λ n. refl) equal_sums s b (needs_conditions b) is) ∙ body_conditions b
 
 pub operators_counted : (text : List ℕ) (piece : Piece) (tokens : List Token) (st : StmtTree) → AreGoodTokens text piece tokens →
     Means (symbols_of text tokens) st → is_integer_body st.body ≡ false → count_of is_operator tokens ≡ operators_in st.body

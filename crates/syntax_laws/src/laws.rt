@@ -14,7 +14,7 @@ ghost use Rattle.stapl_syntax.specs.Statements.{Means, IsPieceStatement};
 ghost use Rattle.canonical_text.specs.Printable.{is_integer_body, openings};
 ghost use Rattle.canonical_text.specs.PrintedTokens.{unary_symbol};
 ghost use Rattle.syntax_laws.specs.Sizes.{operators_in, conditions_in, nesting_in};
-ghost use Rattle.syntax_laws.specs.Brackets.{printed, printed_array, in_brackets, HoldsOperand};
+ghost use Rattle.syntax_laws.specs.Brackets.{printed, printed_array, printed_statement, in_brackets, HoldsOperand};
 
 /// The depth rule counts exactly the operators of a statement, with one operand and with two, and its conditions: so
 /// many tokens of a piece are one as the statement has that they mean. In a declaration of an INTEGER, signs of initial
@@ -64,12 +64,20 @@ pub fn printed_expressions_have_the_fewest_brackets()
         s ≡ printed_array a }
 {}
 
-/// No pair of brackets that is printed for an expression can be left out, however deep it stands: without it the
-/// symbols are another expression, or none. The two need not belong together: it is any bracket that opens, and any
-/// later one that closes. It is the same of an array.
+/// Of all symbols that mean a statement, those that are printed for it have the fewest brackets. Others may have as few,
+/// since the grammar leaves open some commas and HZ.
+pub fn printed_statements_have_the_fewest_brackets()
+    ensures { (s : List Symbol) (st : StmtTree) → Means s st → openings (printed_statement st) ≤ openings s }
+{}
+
+/// No pair of brackets that is printed for a statement can be left out, however deep it stands: without it the symbols
+/// mean another statement, or none. The two need not belong together: it is any bracket that opens, and any later one
+/// that closes. It is the same of an expression and of an array.
 pub fn no_brackets_can_be_left_out()
     ensures expression { (e : ExprTree) (before own after : List Symbol) →
         printed e ≡ before ++ (in_brackets own ++ after) → IsExpr 10 (before ++ (own ++ after)) e → ⊥ }
     ensures array { (a : ArrayTree) (before own after : List Symbol) →
         printed_array a ≡ before ++ (in_brackets own ++ after) → IsArray (before ++ (own ++ after)) a → ⊥ }
+    ensures statement { (st : StmtTree) (before own after : List Symbol) →
+        printed_statement st ≡ before ++ (in_brackets own ++ after) → Means (before ++ (own ++ after)) st → ⊥ }
 {}
