@@ -143,6 +143,14 @@ clocks_stay None next b c h = refl
 clocks_stay (Some ir) None b c h = refl
 clocks_stay (Some ir) (Some on) b c h = refl
 
+usec_shifted : (now next : Option Bool) (b c : Bool) (h : Heard) → (shifted_on now next b c h).usec ≡ h.usec
+usec_shifted None next b c h = refl
+usec_shifted (Some ir) None b c h = refl
+usec_shifted (Some ir) (Some on) b c h = refl
+
+pub usec_stays : (h : Heard) (k : Clock) → (heard_clock h k).usec ≡ h.usec
+usec_stays h k = usec_shifted (shifting h.tap) (shifting (next_of h.tap k.tms)) k.tdi k.tdo h
+
 -- a clock is its shift and a step of the controllers
 pub one_heard : (h mid new : Heard) (k : Clock) (to : Tap) → to ≡ next_of h.tap k.tms →
     mid ≡ shifted_on (shifting h.tap) (shifting to) k.tdi k.tdo h → new ≡ record mid { tap = to; clocks = mid.clocks + 1 } →

@@ -7,4 +7,4 @@ mod runs;
 
 pub use run_cable::RunCable;
 pub use run_place::RunPlace;
-pub use runs::Runs;
+pub use runs::{EndedRuns, Runs};
