@@ -22,6 +22,7 @@ use tap_states::Tap;
 const MOST: u64 = 9_223_372_036_854_775_807;
 
 /// Runs that are over: where their bits stand in the lists of TDI and TDO bits.
+#[derive(Clone, Copy)]
 pub struct EndedRuns<'a> {
     pub places: &'a [RunPlace],
     pub bits_in: &'a Bits,
