@@ -1,0 +1,103 @@
+-- On the account of a turn.
+use Rattle.std.proofs.Common.{◌≡◌, false, Bool, List, [], ◌++◌, Option, Some, None, refl, sym, ap, subst, ◌∙◌}
+use Rattle.std.proofs.lemmas.List.{append-nil}
+use Rattle.tap_states.specs.declared.Tap.{Tap}
+use Rattle.tool_io.specs.declared.lines.Lines.{Lines}
+use Rattle.tool_io.specs.declared.outside.Sink.{Ghosts as SinkOf}
+use Rattle.tool_io.specs.Lines.{Puts, PutsFront, PutsBroken, IsOverSame, IsWhole, SinkNeverFalls, SinkHasRisen}
+use Rattle.tool_io.proofs.PutLemmas.{put_then, put_then_front, puts_same, front_same, front_more}
+use Rattle.dev_card.specs.Padding.{BaseLengths}
+use Rattle.scan_paths.specs.declared.cable.Cable.{Ghosts as CableOf}
+use Rattle.stapl_meaning.specs.declared.events.Event.{Event}
+use Rattle.stapl_meaning.specs.declared.events.Ending.{Ending}
+use Rattle.stapl_meaning.specs.Deeds.{Chain}
+use Rattle.stapl_meaning.specs.States.{State, Happened, with_events}
+use Rattle.stapl_meaning.specs.Texts.{events_text}
+use Rattle.stapl_instructions.specs.declared.control.Went.{Went}
+use Rattle.stapl_instructions.specs.declared.control.Went.TheVariants as went
+use Rattle.stapl_instructions.specs.Moves.{led_on}
+use Rattle.written_cable.specs.OnPaper.{lines_paper}
+use Rattle.written_cable.specs.PaperLaws.{puts_back, front_back}
+use Rattle.written_cable.specs.Signals.{signals_of}
+use Rattle.scan_accounts.specs.ShiftRuns.{ShiftRun, shift_runs}
+use Rattle.scan_accounts.specs.MadeTurns.{clocks_among, happened_events}
+use Rattle.scan_accounts.proofs.OtherLines.{text_both}
+use Rattle.account_lines.specs.declared.lines.TurnPlace.{TurnPlace}
+use Rattle.run_cable.specs.HeardRuns.{Heard, all_runs, closed, heard_all}
+use Rattle.run_cable.specs.KeptRuns.{Kept, IsKnown, Becomes, begun}
+use Rattle.account_plays.specs.RunTexts.{runs_text}
+use Rattle.account_plays.specs.AccountTurns.{chain_of, chain_heard, begun_at, TurnsFront, TurnsKept}
+use Rattle.account_plays.specs.AccountedTurns.{turn_text, AccountsTurn, AccountsFront}
+use Rattle.account_plays.proofs.HeardTurns.{turn_runs, clocks_go_on, usec_goes_on, happened_after}
+
+-- where a turn led has no events
+led_without : (w : Went) (s : State) (k : Chain) → happened_events (led_on w s k) ≡ []
+led_without (went.On place) s k = refl
+led_without (went.Over (Some ending)) s k = refl
+led_without (went.Over None) s k = refl
+
+module _ {C K : Type 0} (cable : CableOf C) (sink : SinkOf K) (base : BaseLengths) (said : TurnPlace) (at to : Tap) (turn : Chain → Happened)
+    (old new : C) (runs mid_runs new_runs : Kept) (out mid_out : Lines K) where
+  -- a turn that was played on lines, and what was kept of it
+  module _ (w : Went) (s : State) (t : TurnsKept cable (lines_paper sink) base turn at old runs out (led_on w s) to new mid_runs mid_out)
+      (same : IsOverSame out mid_out) (whole : IsWhole mid_out) (kept : SinkNeverFalls sink out mid_out) where
+    abbrev events : List Event
+    events = t.turns.events
+
+    first_put : Puts sink out (events_text false [] events) mid_out
+    first_put = puts_back sink out mid_out (events_text false [] events) same whole kept t.turns.put
+
+    module _ (closes : Becomes mid_runs (closed mid_runs.heard) new_runs) (e : new_runs.lost ≡ false) (ended : List ShiftRun) (ended_is : ended ≡ new_runs.heard.ended) where
+      last : IsKnown mid_runs (closed mid_runs.heard) new_runs
+      last = closes e
+
+      first : IsKnown (begun_at at runs) (heard_all (begun at runs.heard) (signals_of events)) mid_runs
+      first = t.heard last.none_lost
+
+      runs_said : ended ≡ shift_runs at (clocks_among events)
+      runs_said =
+          ended_is ∙ ap (λ (h : Heard). h.ended) last.heard ∙ ap all_runs first.heard ∙ turn_runs at runs.heard events
+
+      pub accounted : (new_out : Lines K) → Puts sink mid_out (runs_text said base ended) new_out →
+          AccountsTurn cable sink base said turn at old runs out (led_on w s) to new new_runs new_out
+      accounted new_out p = record {
+        events = events;
+        made = t.turns.made;
+        put = put_then first_put (puts_same (ap (runs_text said base) runs_said) p);
+        does = t.turns.does;
+        sums = record {
+          was_none_lost = first.none_lost;
+          none_lost = e;
+          clocks = ap (λ (h : Heard). h.clocks) last.heard ∙ ap (λ (h : Heard). h.clocks) first.heard ∙ clocks_go_on events (begun at runs.heard);
+          usec = ap (λ (h : Heard). h.usec) last.heard ∙ ap (λ (h : Heard). h.usec) first.heard ∙ usec_goes_on events (begun at runs.heard);
+        };
+      }
+
+      -- a front of the lines of its runs was put
+      pub runs_torn : (new_out : Lines K) → PutsBroken sink mid_out (runs_text said base ended) new_out →
+          AccountsFront cable sink base said turn at old out new_out
+      runs_torn new_out p = record {
+        events = events;
+        put = λ more.
+            (let all : happened_events (turn (chain_heard cable base at old events more)) ≡ events =
+            ap happened_events (t.turns.does more) ∙ happened_after events (led_on w s (chain_of cable base to new more))
+            ∙ ap (λ es. events ++ es) (led_without w s (chain_of cable base to new more)) ∙ append-nil events in
+            subst (λ es. PutsFront sink out (turn_text said base at es) new_out) (sym all)
+            (put_then_front first_put (front_same (ap (runs_text said base) runs_said) p)).put);
+      }
+
+  -- a front of what it writes besides was put
+  pub turn_torn : TurnsFront cable (lines_paper sink) base turn at old out new mid_out → IsOverSame out mid_out → SinkNeverFalls sink out mid_out →
+      SinkHasRisen sink out mid_out → AccountsFront cable sink base said turn at old out mid_out
+  turn_torn t same kept rose = record {
+    events = t.events;
+    put = λ more.
+        (let rest : List Event = happened_events (t.rest more) in
+        let all : happened_events (turn (chain_heard cable base at old t.events more)) ≡ t.events ++ rest =
+        ap happened_events (t.does more) ∙ happened_after t.events (t.rest more) in
+        let front : PutsFront sink out (events_text false [] t.events) mid_out =
+        front_back sink out mid_out (events_text false [] t.events) same kept rose t.put in
+        subst (λ es. PutsFront sink out (turn_text said base at es) mid_out) (sym all)
+        (front_more (runs_text said base (shift_runs at (clocks_among (t.events ++ rest))))
+        (subst (λ x. PutsFront sink out x mid_out) (sym (text_both t.events rest)) (front_more (events_text false [] rest) front))));
+  }

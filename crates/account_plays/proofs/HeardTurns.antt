@@ -1,0 +1,66 @@
+-- On what was heard of a turn.
+use Rattle.std.proofs.Common.{◌≡◌, ℕ, suc, ◌+◌, List, [], ◌∷◌, ◌++◌, length, None, refl, sym, ap, ◌∙◌, arith}
+use Rattle.tap_states.specs.declared.Tap.{Tap}
+use Rattle.dev_card.specs.Board.{Clock}
+use Rattle.scan_paths.specs.Cables.{Signal, clocks_in, Pulses, Waits}
+use Rattle.stapl_meaning.specs.declared.events.Event.{Event}
+use Rattle.stapl_meaning.specs.declared.events.Event.TheVariants.{Print, Export, Usec, Hertz}
+use Rattle.stapl_meaning.specs.declared.events.Event.TheVariants as events
+use Rattle.stapl_meaning.specs.States.{Happened, Led, Finished, Broke, Lacks, with_events}
+use Rattle.written_cable.specs.Signals.{signals_of}
+use Rattle.scan_accounts.specs.ShiftRuns.{shift_runs}
+use Rattle.scan_accounts.specs.MadeTurns.{clocks_among, usec_among, happened_events}
+use Rattle.run_cable.specs.HeardRuns.{Heard, all_runs, heard_clock, heard_signal, heard_all}
+use Rattle.run_cable.specs.KeptRuns.{begun}
+use Rattle.run_cable.proofs.HeardLemmas.{runs_are, usec_stays}
+
+-- the clocks among events are those of the signals among them
+pub clocks_same : (es : List Event) → clocks_in (signals_of es) ≡ clocks_among es
+clocks_same [] = refl
+clocks_same (events.Clock tms tdi tdo ∷ es) = ap (λ ks. record { tms = tms; tdi = tdi; tdo = tdo } ∷ ks) (clocks_same es)
+clocks_same (Print bytes ∷ es) = clocks_same es
+clocks_same (Export key value ∷ es) = clocks_same es
+clocks_same (Usec n ∷ es) = clocks_same es
+clocks_same (Hertz n ∷ es) = clocks_same es
+
+-- the runs that were heard of a turn are those of its clocks
+pub turn_runs : (at : Tap) (h : Heard) (es : List Event) → all_runs (heard_all (begun at h) (signals_of es)) ≡ shift_runs at (clocks_among es)
+turn_runs at h es = runs_are (signals_of es) (begun at h) refl refl ∙ ap (shift_runs at) (clocks_same es)
+
+-- the clocks and the microseconds that were heard of events
+plus_zero : (n : ℕ) → n ≡ n + 0
+plus_zero n = omega arith
+
+one_more : (n m : ℕ) → (n + 1) + m ≡ n + suc m
+one_more n m = omega arith
+
+both_more : (n m k : ℕ) → (n + m) + k ≡ n + (m + k)
+both_more n m k = omega arith
+
+pub clocks_go_on : (es : List Event) (h : Heard) → (heard_all h (signals_of es)).clocks ≡ h.clocks + length (clocks_among es)
+clocks_go_on [] h = plus_zero h.clocks
+clocks_go_on (events.Clock tms tdi tdo ∷ es) h =
+    clocks_go_on es (heard_clock h (record { tms = tms; tdi = tdi; tdo = tdo })) ∙ one_more h.clocks (length (clocks_among es))
+clocks_go_on (Print bytes ∷ es) h = clocks_go_on es h
+clocks_go_on (Export key value ∷ es) h = clocks_go_on es h
+clocks_go_on (Usec n ∷ es) h = clocks_go_on es (heard_signal h (Waits n))
+clocks_go_on (Hertz n ∷ es) h = clocks_go_on es h
+
+pub usec_goes_on : (es : List Event) (h : Heard) → (heard_all h (signals_of es)).usec ≡ h.usec + usec_among es
+usec_goes_on [] h = plus_zero h.usec
+usec_goes_on (events.Clock tms tdi tdo ∷ es) h =
+    usec_goes_on es (heard_clock h k) ∙ ap (λ n. n + usec_among es) (usec_stays h k)
+  where
+    k : Clock
+    k = record { tms = tms; tdi = tdi; tdo = tdo }
+usec_goes_on (Print bytes ∷ es) h = usec_goes_on es h
+usec_goes_on (Export key value ∷ es) h = usec_goes_on es h
+usec_goes_on (Usec n ∷ es) h = usec_goes_on es (heard_signal h (Waits n)) ∙ both_more h.usec n (usec_among es)
+usec_goes_on (Hertz n ∷ es) h = usec_goes_on es h
+
+-- events in front of what happened
+pub happened_after : (es : List Event) (h : Happened) → happened_events (with_events es h) ≡ es ++ happened_events h
+happened_after es (Led events place s k) = refl
+happened_after es (Finished events ending s k) = refl
+happened_after es (Broke events fault s k) = refl
+happened_after es (Lacks events) = refl

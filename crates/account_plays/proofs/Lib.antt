@@ -1,0 +1,4 @@
+pub mod TurnLemmas
+pub mod RunTextLemmas
+pub mod HeardTurns
+pub mod AccountLemmas

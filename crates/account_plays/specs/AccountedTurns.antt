@@ -1,0 +1,66 @@
+-- What a turn of a code does over a cable that never fails, with the account of its runs.
+use Rattle.std.specs.Prelude.{◌≡◌, ℕ, ◌+◌, Bool, false, List, [], ◌++◌, length, slice_get, Option, Some, Result, Ok, Err}
+use Rattle.tap_states.specs.declared.Tap.{Tap}
+use Rattle.tool_io.specs.declared.lines.Lines.{Lines}
+use Rattle.tool_io.specs.declared.outside.Sink.{Ghosts as SinkOf}
+use Rattle.tool_io.specs.Lines.{Puts, PutsFront}
+use Rattle.dev_card.specs.Padding.{BaseLengths}
+use Rattle.scan_paths.specs.declared.cable.Cable.{Ghosts as CableOf}
+use Rattle.stapl_meaning.specs.declared.events.Event.{Event}
+use Rattle.stapl_meaning.specs.Deeds.{Chain}
+use Rattle.stapl_meaning.specs.States.{Happened, with_events}
+use Rattle.stapl_meaning.specs.Texts.{events_text}
+use Rattle.stapl_code.specs.declared.raw.CodeLists.{CodeLists}
+use Rattle.stapl_instructions.specs.declared.control.Went.{Went}
+use Rattle.stapl_machine.specs.Turns.{piece_of}
+use Rattle.written_cable.specs.Signals.{signals_of}
+use Rattle.scan_accounts.specs.ShiftRuns.{shift_runs}
+use Rattle.scan_accounts.specs.MadeTurns.{clocks_among, usec_among, happened_events}
+use Rattle.account_lines.specs.declared.lines.TurnPlace.{TurnPlace}
+use Rattle.run_cable.specs.KeptRuns.{Kept}
+use Rattle.account_plays.specs.declared.failures.AccountFailed.{AccountFailed}
+use Rattle.account_plays.specs.declared.failures.AccountFailed.TheVariants.{Write, Lost}
+use Rattle.account_plays.specs.declared.turns.Turned.{Turned}
+use Rattle.account_plays.specs.AccountTurns.{chain_of, chain_heard}
+use Rattle.account_plays.specs.RunTexts.{runs_text}
+
+-- the text of a turn from a state of the controllers on: what it writes besides, and then the lines of its runs
+abbrev pub turn_text : TurnPlace → BaseLengths → Tap → List Event → List ℕ
+turn_text turn base at events = events_text false [] events ++ runs_text turn base (shift_runs at (clocks_among events))
+
+-- The turn at a place of a code is of this piece, and this is told of that in a table.
+pub record IsTurnOf (code : CodeLists) (table : List TurnPlace) (place : ℕ) (piece : ℕ) (turn : TurnPlace) : Type 0 where
+  pub at_piece : piece_of (slice_get code.instrs place) ≡ Some piece
+  pub in_table : slice_get table piece ≡ Some turn
+
+-- the sums of clocks and of microseconds go on by those of events, and nothing was lost
+pub record SumsGoOn (old : Kept) (events : List Event) (new : Kept) : Type 0 where
+  pub was_none_lost : old.lost ≡ false
+  pub none_lost : new.lost ≡ false
+  pub clocks : new.heard.clocks ≡ old.heard.clocks + length (clocks_among events)
+  pub usec : new.heard.usec ≡ old.heard.usec + usec_among events
+
+module _ {C K : Type 0} (cable : CableOf C) (sink : SinkOf K) (base : BaseLengths) (said : TurnPlace) where
+  -- The turn was played, and its text was put.
+  pub record AccountsTurn (turn : Chain → Happened) (at : Tap) (old : C) (runs : Kept) (out : Lines K) (rest : Chain → Happened)
+      (to : Tap) (new : C) (new_runs : Kept) (new_out : Lines K) : Type 0 where
+    pub events : List Event
+    pub made : cable.made old (signals_of events) new
+    pub put : Puts sink out (turn_text said base at events) new_out
+    pub does : (more : List Bool) → turn (chain_heard cable base at old events more)
+        ≡ with_events events (rest (chain_of cable base to new more))
+    pub sums : SumsGoOn runs events new_runs
+
+  -- A front of the text was put that the turn has at the far end of the cable.
+  pub record AccountsFront (turn : Chain → Happened) (at : Tap) (old : C) (out new_out : Lines K) : Type 0 where
+    pub events : List Event
+    pub put : (more : List Bool) → PutsFront sink out
+        (turn_text said base at (happened_events (turn (chain_heard cable base at old events more)))) new_out
+
+  -- what a call does that plays a turn so, by its result; of a loss nothing is said
+  abbrev pub HasAccounted : (Chain → Happened) → Tap → C → Kept → Lines K → Result Turned AccountFailed → (Went → Chain → Happened) →
+      C → Kept → Lines K → Type 0
+  HasAccounted turn at old runs out (Ok t) rest new new_runs new_out =
+      AccountsTurn turn at old runs out (rest t.went) t.tap new new_runs new_out
+  HasAccounted turn at old runs out (Err Write) rest new new_runs new_out = AccountsFront turn at old out new_out
+  HasAccounted turn at old runs out (Err Lost) rest new new_runs new_out = Unit {0}

@@ -1,0 +1,3 @@
+pub mod AccountTurns
+pub mod RunTexts
+pub mod AccountedTurns

@@ -1,0 +1,11 @@
+//! Plays of a code with an account: what each turn did at the pins.
+#![tactic(auto)]
+
+mod accounting;
+mod failures;
+mod run_lines;
+mod turns;
+
+pub use accounting::account_turn;
+pub use failures::AccountFailed;
+pub use turns::{Course, Turned};

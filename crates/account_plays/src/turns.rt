@@ -1,0 +1,98 @@
+//! One turn of a code.
+ghost use Rattle.std.specs.Prelude.{◌≡◌, false, IfOk};
+ghost use Rattle.scan_paths.specs.Scans.{lengths_of};
+ghost use Rattle.machine_memory.specs.Acts.{state_of};
+ghost use Rattle.machine_memory.specs.RunRooms.{KeepsRoom};
+ghost use Rattle.stapl_instructions.specs.Moves.{led_on, IsClean};
+ghost use Rattle.stapl_machine.specs.Turns.{turn_at};
+ghost use Rattle.written_cable.specs.Ports.{KeepsParts};
+ghost use Rattle.account_plays.specs.AccountTurns.{IsOpenCable, CanPlayTurns, HasTurned, HasTurnedKept};
+
+use base::Steps;
+use machine_memory::memory::Workspace;
+use run_cable::{RunCable, Runs};
+use scan_paths::{BasePads, Cable};
+use stapl_code::CodeLists;
+use stapl_instructions::Went;
+use stapl_machine::turn;
+use std::sync::ledger::Ledger;
+use tap_states::Tap;
+use written_cable::{Digits, Paper, PinCable, Trouble};
+
+/// What is played: the chosen procedures of a code, told by their numbers, with this base padding around each scan.
+#[derive(Clone, Copy)]
+pub struct Course<'a> {
+    pub code: &'a CodeLists,
+    pub chosen: &'a [u32],
+    pub base: BasePads,
+}
+
+/// Where a turn led, and in which state all controllers are then.
+#[derive(Clone, Copy)]
+pub struct Turned {
+    pub went: Went,
+    pub tap: Tap,
+}
+
+/// Plays the turn at a place of a code, from a state of the controllers on. It puts the lines of its events.
+///
+/// It takes no memory. A `Trouble` comes as at a play.
+pub(crate) fn play_turn<C: Cable, O: Paper, L: Ledger>(
+    course: &Course<'_>,
+    place: u32,
+    tap: Tap,
+    work: &mut Workspace,
+    cable: &mut C,
+    out: &mut O,
+    steps: &mut Steps<L>,
+) -> Result<Turned, Trouble>
+    requires ready { CanPlayTurns course.now.code.now work.old }
+    requires open { IsOpenCable C.Cable tap cable.old }
+    requires whole { O.failed out.old ≡ false }
+    ensures turned { HasTurned C.Cable O.Paper (lengths_of course.now.base)
+        (turn_at course.now.code.now place (state_of course.now.chosen.now work.old)) tap cable.old out.old result
+        (λ went. led_on went (state_of course.now.chosen.now work.new)) cable.new out.new }
+    ensures clean { IfOk result (λ t. IsClean t.went work.new.operands.items) }
+    ensures room { KeepsRoom work.old work.new }
+    ensures open { IfOk result (λ t. IsOpenCable C.Cable t.tap cable.new) }
+    ensures kept { KeepsParts C.Cable O.Paper cable.old out.old cable.new out.new result }
+{
+    let mut port = PinCable::over(cable, out, tap, Digits::none(), false, course.base);
+    match turn(course.code, course.chosen, place, work, &mut port, steps) {
+        Ok(went) => {
+            let tap = port.tap();
+            Ok(Turned { went, tap })
+        }
+        Err(trouble) => Err(trouble),
+    }
+}
+
+/// The same over a cable whose runs are kept: what is kept becomes the runs of this turn, and the sums go on.
+pub(crate) fn play_kept_turn<C: Cable, O: Paper, L: Ledger>(
+    course: &Course<'_>,
+    place: u32,
+    tap: Tap,
+    work: &mut Workspace,
+    cable: &mut C,
+    runs: &mut Runs,
+    out: &mut O,
+    steps: &mut Steps<L>,
+) -> Result<Turned, Trouble>
+    requires ready { CanPlayTurns course.now.code.now work.old }
+    requires open { IsOpenCable C.Cable tap cable.old }
+    requires whole { O.failed out.old ≡ false }
+    ensures turned { HasTurnedKept C.Cable O.Paper (lengths_of course.now.base)
+        (turn_at course.now.code.now place (state_of course.now.chosen.now work.old)) tap cable.old runs.old out.old
+        result (λ went. led_on went (state_of course.now.chosen.now work.new)) cable.new runs.new out.new }
+    ensures clean { IfOk result (λ t. IsClean t.went work.new.operands.items) }
+    ensures room { KeepsRoom work.old work.new }
+    ensures open { IfOk result (λ t. IsOpenCable C.Cable t.tap cable.new) }
+    ensures kept { KeepsParts C.Cable O.Paper cable.old out.old cable.new out.new result }
+{
+    runs.begin(tap);
+    let mut over = RunCable::over(cable, runs);
+    match play_turn(course, place, tap, work, &mut over, out, steps) {
+        Ok(turned) => Ok(turned),
+        Err(trouble) => Err(trouble),
+    }
+}
