@@ -31,7 +31,7 @@ use Rattle.account_plays.specs.AccountedTurns.{turn_text, AccountsTurn, Accounts
 use Rattle.account_plays.proofs.HeardTurns.{turn_runs, clocks_go_on, usec_goes_on, happened_after}
 
 -- where a turn led has no events
-led_without : (w : Went) (s : State) (k : Chain) → happened_events (led_on w s k) ≡ []
+pub led_without : (w : Went) (s : State) (k : Chain) → happened_events (led_on w s k) ≡ []
 led_without (went.On place) s k = refl
 led_without (went.Over (Some ending)) s k = refl
 led_without (went.Over None) s k = refl

@@ -64,3 +64,20 @@ happened_after es (Led events place s k) = refl
 happened_after es (Finished events ending s k) = refl
 happened_after es (Broke events fault s k) = refl
 happened_after es (Lacks events) = refl
+
+-- clocks and microseconds of events in two parts
+pub clocks_both : (es fs : List Event) → length (clocks_among (es ++ fs)) ≡ length (clocks_among es) + length (clocks_among fs)
+clocks_both [] fs = omega arith
+clocks_both (events.Clock tms tdi tdo ∷ es) fs = omega (arith, clocks_both es fs)
+clocks_both (Print bytes ∷ es) fs = clocks_both es fs
+clocks_both (Export key value ∷ es) fs = clocks_both es fs
+clocks_both (Usec n ∷ es) fs = clocks_both es fs
+clocks_both (Hertz n ∷ es) fs = clocks_both es fs
+
+pub usec_both : (es fs : List Event) → usec_among (es ++ fs) ≡ usec_among es + usec_among fs
+usec_both [] fs = omega arith
+usec_both (events.Clock tms tdi tdo ∷ es) fs = usec_both es fs
+usec_both (Print bytes ∷ es) fs = usec_both es fs
+usec_both (Export key value ∷ es) fs = usec_both es fs
+usec_both (Usec n ∷ es) fs = omega (arith, usec_both es fs)
+usec_both (Hertz n ∷ es) fs = usec_both es fs

@@ -2,3 +2,4 @@ pub mod TurnLemmas
 pub mod RunTextLemmas
 pub mod HeardTurns
 pub mod AccountLemmas
+pub mod RunAccounts

@@ -1,5 +1,5 @@
 -- What a turn of a code does over a cable that never fails, with the account of its runs.
-use Rattle.std.specs.Prelude.{◌≡◌, ℕ, ◌+◌, Bool, false, List, [], ◌++◌, length, slice_get, Option, Some, Result, Ok, Err}
+use Rattle.std.specs.Prelude.{◌≡◌, ℕ, ◌+◌, Bool, false, List, [], ◌++◌, length, Result, Ok, Err}
 use Rattle.tap_states.specs.declared.Tap.{Tap}
 use Rattle.tool_io.specs.declared.lines.Lines.{Lines}
 use Rattle.tool_io.specs.declared.outside.Sink.{Ghosts as SinkOf}
@@ -10,9 +10,7 @@ use Rattle.stapl_meaning.specs.declared.events.Event.{Event}
 use Rattle.stapl_meaning.specs.Deeds.{Chain}
 use Rattle.stapl_meaning.specs.States.{Happened, with_events}
 use Rattle.stapl_meaning.specs.Texts.{events_text}
-use Rattle.stapl_code.specs.declared.raw.CodeLists.{CodeLists}
 use Rattle.stapl_instructions.specs.declared.control.Went.{Went}
-use Rattle.stapl_machine.specs.Turns.{piece_of}
 use Rattle.written_cable.specs.Signals.{signals_of}
 use Rattle.scan_accounts.specs.ShiftRuns.{shift_runs}
 use Rattle.scan_accounts.specs.MadeTurns.{clocks_among, usec_among, happened_events}
@@ -27,11 +25,6 @@ use Rattle.account_plays.specs.RunTexts.{runs_text}
 -- the text of a turn from a state of the controllers on: what it writes besides, and then the lines of its runs
 abbrev pub turn_text : TurnPlace → BaseLengths → Tap → List Event → List ℕ
 turn_text turn base at events = events_text false [] events ++ runs_text turn base (shift_runs at (clocks_among events))
-
--- The turn at a place of a code is of this piece, and this is told of that in a table.
-pub record IsTurnOf (code : CodeLists) (table : List TurnPlace) (place : ℕ) (piece : ℕ) (turn : TurnPlace) : Type 0 where
-  pub at_piece : piece_of (slice_get code.instrs place) ≡ Some piece
-  pub in_table : slice_get table piece ≡ Some turn
 
 -- the sums of clocks and of microseconds go on by those of events, and nothing was lost
 pub record SumsGoOn (old : Kept) (events : List Event) (new : Kept) : Type 0 where

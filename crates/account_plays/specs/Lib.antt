@@ -1,3 +1,4 @@
 pub mod AccountTurns
 pub mod RunTexts
 pub mod AccountedTurns
+pub mod AccountedRuns

@@ -4,8 +4,10 @@
 mod accounting;
 mod failures;
 mod run_lines;
+mod running;
 mod turns;
 
 pub use accounting::account_turn;
 pub use failures::AccountFailed;
+pub use running::account_turns;
 pub use turns::{Course, Turned};

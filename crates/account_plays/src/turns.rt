@@ -8,6 +8,7 @@ ghost use Rattle.stapl_machine.specs.Turns.{turn_at};
 ghost use Rattle.written_cable.specs.Ports.{KeepsParts};
 ghost use Rattle.account_plays.specs.AccountTurns.{IsOpenCable, CanPlayTurns, HasTurned, HasTurnedKept};
 
+use account_lines::TurnPlace;
 use base::Steps;
 use machine_memory::memory::Workspace;
 use run_cable::{RunCable, Runs};
@@ -19,12 +20,14 @@ use std::sync::ledger::Ledger;
 use tap_states::Tap;
 use written_cable::{Digits, Paper, PinCable, Trouble};
 
-/// What is played: the chosen procedures of a code, told by their numbers, with this base padding around each scan.
+/// What is played: the chosen procedures of a code, told by their numbers, with this base padding around each scan, and
+/// what is told of each piece of the program.
 #[derive(Clone, Copy)]
 pub struct Course<'a> {
     pub code: &'a CodeLists,
     pub chosen: &'a [u32],
     pub base: BasePads,
+    pub table: &'a [TurnPlace],
 }
 
 /// Where a turn led, and in which state all controllers are then.
