@@ -1,5 +1,5 @@
 -- What a reader sees of a dump.
-use Rattle.std.proofs.Common.{◌≡◌, ◌<◌, ◌+◌, ◌/◌, ◌%◌, ◌^◌, ◌∙◌, ℕ, Bool, true, false, List, [], ◌∷◌, ◌++◌, refl, sym, ap, append_assoc, append-nil, arith}
+use Rattle.std.proofs.Common.{◌≡◌, ◌<◌, ◌+◌, ◌/◌, ◌%◌, ◌^◌, ◌∙◌, ℕ, Bool, true, false, List, [], ◌∷◌, ◌++◌, Option, None, Some, refl, sym, ap, append_assoc, append-nil, arith}
 use Rattle.std.specs.Prelude.{◌==◌, ◌↔◌, codes, if◌then◌else◌}
 use Rattle.std.specs.Str.Parse.{digits_value}
 use Rattle.std.proofs.lemmas.Bool.{and_parts}
@@ -8,15 +8,12 @@ use Rattle.tap_states.specs.declared.Tap.{Tap}
 use Rattle.tap_states.specs.declared.Tap.TheVariants.{Reset, Idle, DrSelect, DrCapture, DrShift, DrExit1, DrPause, DrExit2, DrUpdate, IrSelect, IrCapture, IrShift, IrExit1, IrPause, IrExit2, IrUpdate}
 use Rattle.tap_states.specs.Tap.{tap_number}
 use Rattle.pin_lines.specs.PinLines.{lines_of, input_of_pin, clock_of_pin}
-use Rattle.wave_tool.specs.declared.wave.Control.{Control}
-use Rattle.wave_tool.specs.declared.wave.Control.TheVariants.{Unknown, In}
 use Rattle.wave_tool.specs.declared.wave.Levels.{Levels}
-use Rattle.wave_tool.specs.declared.wave.Wave.{Wave}
 use Rattle.wave_tool.specs.Items.{Item, Clocked, Waited}
-use Rattle.wave_tool.specs.Waves.{level_of, wire_change, state_level, state_wire, changes, are_same, time_line, moment, low_levels, high_levels, rest_levels, item_text, after_item, items_text, after_items, shown_number, first_wave, end_text, head_text, wave_text}
+use Rattle.wave_tool.specs.Waves.{Wave, level_of, wire_change, state_level, state_wire, changes, are_same, time_line, moment, low_levels, high_levels, states_clocked, rest_levels, item_text, after_item, items_text, after_items, shown_number, first_wave, end_text, head_text, wave_text}
 use Rattle.wave_laws.specs.Readers.{Rise, View, after_lines, no_view, view_of, state_levels, bit_digit, rises_of, length_of}
-use Rattle.wave_laws.specs.States.{tms_values, shown_after, LeadsFromReset}
-use Rattle.wave_laws.proofs.ShownStates.{known_after, shown_is, below_16, shown_exactly, unknown_exactly}
+use Rattle.wave_laws.specs.States.{tms_values, shown_after, LeadFromEach}
+use Rattle.wave_laws.proofs.ShownStates.{settled_after, shown_is, below_16, shown_exactly, unknown_exactly}
 use Rattle.wave_laws.proofs.ReadLines.{Reads, reads_both, reads_none, reads_as, reads_time, IsLevel, reads_wire}
 
 -- what is seen if the wires have these levels, and TCK that one
@@ -157,10 +154,10 @@ rise_is time digit old = λ j. record {
 -- what is seen of one clock
 clock_read : (seen : ℕ) (rises : List Rise) (w : Wave) (digit : ℕ) → w.time + 1 < 2 ^ 64 →
     Reads (view_with w.levels.tck seen rises w.levels) (item_text w (Clocked digit))
-    (view_with 49 (w.time + 1) (rises ++ rise_of w.time digit ∷ []) (high_levels w.levels w.control digit))
+    (view_with 49 (w.time + 1) (rises ++ rise_of w.time digit ∷ []) (high_levels w.levels (states_clocked w.states digit) digit))
 clock_read seen rises w digit small =
     let low = low_levels w.levels digit in
-    let high = high_levels w.levels w.control digit in
+    let high = high_levels w.levels (states_clocked w.states digit) digit in
     let first = falls_then seen w.time rises w.levels low (omega arith) refl (are_levels w.levels digit) in
     let at_rise = reads_time (view_with 48 first.0 rises low) (w.time + 1) small in
     let last = climbs (w.time + 1) rises low high (record { tms = (are_levels w.levels digit).tms; tdi = (are_levels w.levels digit).tdi; tdo = (are_levels w.levels digit).tdo }) in
@@ -267,29 +264,29 @@ state_spelled IrUpdate = refl
 no_state : (tap : Tap) → digits_value 2 (codes "xxxx") ≡ tap_number tap → ⊥
 no_state tap e = let less = below_16 tap in omega (arith, less, e)
 
-shown_if_spelled : (control : Control) (n : ℕ) (tap : Tap) → n ≡ shown_number control → digits_value 2 (levels_for n) ≡ tap_number tap → n ≡ tap_number tap
-shown_if_spelled (In state) n tap is e = is ∙ sym (state_spelled state) ∙ ap (λ k. digits_value 2 (levels_for k)) (sym is) ∙ e
-shown_if_spelled (Unknown ones) n tap is e = absurd (no_state tap (ap (λ k. digits_value 2 (levels_for k)) (sym is) ∙ e))
+shown_if_spelled : (known : Option Tap) (n : ℕ) (tap : Tap) → n ≡ shown_number known → digits_value 2 (levels_for n) ≡ tap_number tap → n ≡ tap_number tap
+shown_if_spelled (Some state) n tap is e = is ∙ sym (state_spelled state) ∙ ap (λ k. digits_value 2 (levels_for k)) (sym is) ∙ e
+shown_if_spelled None n tap is e = absurd (no_state tap (ap (λ k. digits_value 2 (levels_for k)) (sym is) ∙ e))
 
 pub state_seen : (items : List Item) (tap : Tap) → length_of items < 2 ^ 64 →
-    (digits_value 2 (state_levels (view_of (wave_text items))) ≡ tap_number tap) ↔ LeadsFromReset (tms_values items) tap
+    (digits_value 2 (state_levels (view_of (wave_text items))) ≡ tap_number tap) ↔ LeadFromEach (tms_values items) tap
 state_seen items tap small =
     let levels = levels_seen items small in
-    let known = known_after (Unknown 0) (tms_values items) in (
+    let known = settled_after items in (
       (λ e. (shown_exactly items tap).0 (shown_if_spelled known (shown_after items) tap (shown_is items) (ap (digits_value 2) (sym levels) ∙ e))),
       (λ h. ap (digits_value 2) levels ∙ ap (λ n. digits_value 2 (levels_for n)) ((shown_exactly items tap).1 h) ∙ state_spelled tap),
     )
 
-unknown_if_spelled : (control : Control) (n : ℕ) → n ≡ shown_number control → levels_for n ≡ codes "xxxx" → n ≡ 16
-unknown_if_spelled (In state) n is e =
+unknown_if_spelled : (known : Option Tap) (n : ℕ) → n ≡ shown_number known → levels_for n ≡ codes "xxxx" → n ≡ 16
+unknown_if_spelled (Some state) n is e =
     absurd (no_state state (ap (digits_value 2) (sym e) ∙ ap (λ k. digits_value 2 (levels_for k)) is ∙ state_spelled state))
-unknown_if_spelled (Unknown ones) n is e = is
+unknown_if_spelled None n is e = is
 
 pub unknown_seen : (items : List Item) → length_of items < 2 ^ 64 →
-    (state_levels (view_of (wave_text items)) ≡ codes "xxxx") ↔ ((tap : Tap) → LeadsFromReset (tms_values items) tap → ⊥)
+    (state_levels (view_of (wave_text items)) ≡ codes "xxxx") ↔ ((tap : Tap) → LeadFromEach (tms_values items) tap → ⊥)
 unknown_seen items small =
     let levels = levels_seen items small in
-    let known = known_after (Unknown 0) (tms_values items) in (
+    let known = settled_after items in (
       (λ e. (unknown_exactly items).0 (unknown_if_spelled known (shown_after items) (shown_is items) (sym levels ∙ e))),
       (λ none. levels ∙ ap levels_for ((unknown_exactly items).1 none)),
     )

@@ -1,116 +1,83 @@
--- The state that a wave shows is that of controllers in any state, from five ones in a row on.
-use Rattle.std.proofs.Common.{◌≡◌, ◌<◌, ◌≤◌, ◌+◌, ◌∙◌, ℕ, zero, suc, Bool, true, false, List, [], ◌∷◌, ◌++◌, add-one, refl, sym, ap, subst, arith}
-use Rattle.std.specs.Prelude.{◌↔◌, nat_le, if◌then◌else◌}
+-- The state that a wave shows is the one to which its clocks lead from each state.
+use Rattle.std.proofs.Common.{◌≡◌, ◌<◌, ◌∙◌, ℕ, Bool, true, false, List, [], ◌∷◌, ◌++◌, map, Option, None, Some, refl, sym, ap, arith}
+use Rattle.std.specs.Prelude.{◌==◌, ◌↔◌, if◌then◌else◌}
+use Rattle.std.specs.List.{list_all}
 use Rattle.std.proofs.lemmas.Bool.Decides.{nat_tests}
 use Rattle.tap_states.specs.declared.Tap.{Tap}
 use Rattle.tap_states.specs.declared.Tap.TheVariants.{Reset, Idle, DrSelect, DrCapture, DrShift, DrExit1, DrPause, DrExit2, DrUpdate, IrSelect, IrCapture, IrShift, IrExit1, IrPause, IrExit2, IrUpdate}
 use Rattle.tap_states.specs.Tap.{next_of, tap_number}
 use Rattle.tap_states.specs.Path.{walk, five_ones}
-use Rattle.tap_states.proofs.States.{tap_number-injective}
+use Rattle.tap_states.proofs.States.{each, tap_eq, tap_eq-same, tap_number-injective}
 use Rattle.tap_states.proofs.Shortest.{five_ones_lead}
-use Rattle.wave_tool.specs.declared.wave.Control.{Control}
-use Rattle.wave_tool.specs.declared.wave.Control.TheVariants.{Unknown, In}
-use Rattle.wave_tool.specs.declared.wave.Wave.{Wave}
+use Rattle.pin_lines.specs.PinLines.{input_of_pin}
 use Rattle.wave_tool.specs.Items.{Item, Clocked, Waited}
-use Rattle.wave_tool.specs.Waves.{control_after, shown_number, first_wave, after_item, after_items}
+use Rattle.wave_tool.specs.States.{all_states, are_all, states_after, settled_state}
+use Rattle.wave_tool.specs.Waves.{Wave, shown_number, first_wave, after_item, after_items}
 use Rattle.wave_laws.specs.States.{tms_values, shown_after, LeadFromEach, LeadsFromReset}
 
--- what is known after these values
-abbrev pub known_after : Control → List Bool → Control
-known_after control [] = control
-known_after control (tms ∷ values) = known_after (control_after control tms) values
+-- where clocks with these values lead from some states
+abbrev pub states_led : List Tap → List Bool → List Tap
+states_led states [] = states
+states_led states (tms ∷ values) = states_led (states_after states tms) values
 
-control_is : (items : List Item) (w : Wave) → (after_items w items).control ≡ known_after w.control (tms_values items)
-control_is [] w = refl
-control_is (Clocked digit ∷ items) w = control_is items (after_item w (Clocked digit))
-control_is (Waited usec ∷ items) w = control_is items (after_item w (Waited usec))
+states_are : (items : List Item) (w : Wave) → (after_items w items).states ≡ states_led w.states (tms_values items)
+states_are [] w = refl
+states_are (Clocked digit ∷ items) w = states_are items (after_item w (Clocked digit))
+states_are (Waited usec ∷ items) w = states_are items (after_item w (Waited usec))
 
-number_is : (items : List Item) (w : Wave) → w.levels.state ≡ shown_number w.control → (after_items w items).levels.state ≡ shown_number (after_items w items).control
+number_is : (items : List Item) (w : Wave) → w.levels.state ≡ shown_number (settled_state w.states) →
+    (after_items w items).levels.state ≡ shown_number (settled_state (after_items w items).states)
 number_is [] w e = e
 number_is (Clocked digit ∷ items) w e = number_is items (after_item w (Clocked digit)) refl
 number_is (Waited usec ∷ items) w e = number_is items (after_item w (Waited usec)) e
 
-pub shown_is : (items : List Item) → shown_after items ≡ shown_number (known_after (Unknown 0) (tms_values items))
-shown_is items = number_is items first_wave refl ∙ ap shown_number (control_is items first_wave)
+-- the state in which the controllers are after clocks, if it is one
+abbrev pub settled_after : List Item → Option Tap
+settled_after items = settled_state (states_led all_states (tms_values items))
 
-known-append : (control : Control) (front rest : List Bool) → known_after control (front ++ rest) ≡ known_after (known_after control front) rest
-known-append control [] rest = refl
-known-append control (tms ∷ front) rest = known-append (control_after control tms) front rest
+pub shown_is : (items : List Item) → shown_after items ≡ shown_number (settled_after items)
+shown_is items =
+    number_is items first_wave refl
+    ∙ ap (λ states. shown_number (settled_state states)) (states_are items first_wave)
 
-walk-append : (from : Tap) (front rest : List Bool) → walk from (front ++ rest) ≡ walk (walk from front) rest
-walk-append from [] rest = refl
-walk-append from (tms ∷ front) rest = walk-append (next_of from tms) front rest
+led_on : (tms : Bool) (values : List Bool) (states : List Tap) →
+    map (λ from. walk from values) (states_after states tms) ≡ map (λ from. walk from (tms ∷ values)) states
+led_on tms values [] = refl
+led_on tms values (state ∷ states) = ap (λ t. walk state (tms ∷ values) ∷ t) (led_on tms values states)
 
-known_in : (tap : Tap) (values : List Bool) → known_after (In tap) values ≡ In (walk tap values)
-known_in tap [] = refl
-known_in tap (tms ∷ values) = known_in (next_of tap tms) values
+led_nowhere : (states : List Tap) → states ≡ map (λ from. walk from []) states
+led_nowhere [] = refl
+led_nowhere (state ∷ states) = ap (λ t. state ∷ t) (led_nowhere states)
 
--- five ones lead to Test-Logic-Reset, whatever is known before them
-at_least_four : (k : ℕ) → nat_le 4 (suc (suc (suc (suc k)))) ≡ true
-at_least_four k = grind (arith, nat_tests)
+led_is : (values : List Bool) (states : List Tap) → states_led states values ≡ map (λ from. walk from values) states
+led_is [] states = led_nowhere states
+led_is (tms ∷ values) states = led_is values (states_after states tms) ∙ led_on tms values states
 
-four_or_more : (ones : ℕ) (t : Bool) → t ≡ true → known_after (if t then In Reset else Unknown (ones + 1)) (true ∷ true ∷ true ∷ true ∷ []) ≡ In Reset
-four_or_more ones true e = refl
-four_or_more ones false e = absurd cc
+-- ---- a function of all states that has one value
 
-reset_after : (control : Control) → known_after control five_ones ≡ In Reset
-reset_after (In tap) = known_in tap five_ones ∙ ap In (five_ones_lead tap)
-reset_after (Unknown zero) = refl
-reset_after (Unknown (suc zero)) = refl
-reset_after (Unknown (suc (suc zero))) = refl
-reset_after (Unknown (suc (suc (suc zero)))) = refl
-reset_after (Unknown (suc (suc (suc (suc k))))) = four_or_more (suc (suc (suc (suc k)))) (nat_le 4 (suc (suc (suc (suc k))))) (at_least_four k)
+-- the value, if it is the same for each state
+abbrev one_value : (Tap → Tap) → Option Tap
+one_value f = settled_state (map f all_states)
 
-is_known : (values : List Bool) (tap : Tap) → LeadsFromReset values tap → known_after (Unknown 0) values ≡ In tap
-is_known values tap h =
-    ap (known_after (Unknown 0)) h.parts ∙ known-append (Unknown 0) h.front (five_ones ++ h.rest) ∙ known-append (known_after (Unknown 0) h.front) five_ones h.rest
-    ∙ ap (λ (c : Control). known_after c h.rest) (reset_after (known_after (Unknown 0) h.front)) ∙ known_in Reset h.rest ∙ ap In h.leads
-
--- so many ones, and then these values
-abbrev after_ones : ℕ → List Bool → List Bool
-after_ones zero values = values
-after_ones (suc k) values = true ∷ after_ones k values
-
-after_ones-append : (k : ℕ) (a b : List Bool) → after_ones k (a ++ b) ≡ after_ones k a ++ b
-after_ones-append zero a b = refl
-after_ones-append (suc k) a b = ap (λ v. true ∷ v) (after_ones-append k a b)
-
-one_more : (k : ℕ) (values : List Bool) → after_ones (suc k) values ≡ after_ones k (true ∷ values)
-one_more zero values = refl
-one_more (suc k) values = ap (λ v. true ∷ v) (one_more k values)
-
--- a value before them
-a_zero_before : (k : ℕ) (values : List Bool) (tap : Tap) → LeadsFromReset values tap → LeadsFromReset (after_ones k (false ∷ values)) tap
-a_zero_before k values tap h = record {
-  front = after_ones k (false ∷ h.front);
-  rest = h.rest;
-  parts = ap (λ v. after_ones k (false ∷ v)) h.parts ∙ after_ones-append k (false ∷ h.front) (five_ones ++ h.rest);
-  leads = h.leads;
-}
-
-a_one_before : (k : ℕ) (values : List Bool) (tap : Tap) (t : Bool) → k ≤ 4 → nat_le 4 k ≡ t →
-    (k + 1 ≤ 4 → known_after (Unknown (k + 1)) values ≡ In tap → LeadsFromReset (after_ones (k + 1) values) tap) →
-    known_after (if t then In Reset else Unknown (k + 1)) values ≡ In tap → LeadsFromReset (after_ones k (true ∷ values)) tap
-a_one_before k values tap true le test next e =
-    let four : k ≡ 4 = four_is k le test in
-    let leads : walk Reset values ≡ tap = same_tap (walk Reset values) tap (sym (known_in Reset values) ∙ e) in
-    record { front = []; rest = values; parts = ap (λ n. after_ones n (true ∷ values)) four; leads = leads }
+always : (f : Tap → Tap) (tap : Tap) → one_value f ≡ Some tap → (from : Tap) → f from ≡ tap
+always f tap e from = by (are_all (map f all_states) (f Reset)) refl e
   where
-    four_is : (k : ℕ) → k ≤ 4 → nat_le 4 k ≡ true → k ≡ 4
-    four_is k le test = grind (arith, nat_tests)
+    by : (t : Bool) → are_all (map f all_states) (f Reset) ≡ t → (if t then Some (f Reset) else None) ≡ Some tap →
+        f from ≡ tap
+    by true all is =
+        let first : f Reset ≡ tap = cc in
+        tap_eq-same (f from) (f Reset) (each (λ state. tap_eq (f state) (f Reset)) all from) ∙ first
+    by false all is = absurd cc
 
-    same_tap : (a b : Tap) → In a ≡ In b → a ≡ b
-    same_tap a b e = cc
-a_one_before k values tap false le test next e =
-    subst (λ v. LeadsFromReset v tap) (ap (λ n. after_ones n values) (add-one k) ∙ one_more k values) (next (less k le test) e)
-  where
-    less : (k : ℕ) → k ≤ 4 → nat_le 4 k ≡ false → k + 1 ≤ 4
-    less k le test = grind (arith, nat_tests)
+equal_numbers : (n : ℕ) → (n == n) ≡ true
+equal_numbers n = grind (arith, nat_tests)
 
-five_ones_stand : (k : ℕ) (values : List Bool) (tap : Tap) → k ≤ 4 → known_after (Unknown k) values ≡ In tap → LeadsFromReset (after_ones k values) tap
-five_ones_stand k [] tap le e = absurd cc
-five_ones_stand k (false ∷ values) tap le e = a_zero_before k values tap (five_ones_stand 0 values tap (omega arith) e)
-five_ones_stand k (true ∷ values) tap le e = a_one_before k values tap (nat_le 4 k) le refl (λ less known. five_ones_stand (k + 1) values tap less known) e
+constant : (tap : Tap) → one_value (λ _. tap) ≡ Some tap
+constant tap =
+    ap (λ t. if list_all (λ (_ : Tap). t) all_states then Some tap else None) (equal_numbers (tap_number tap))
+
+always_one : (f : Tap → Tap) (tap : Tap) → ((from : Tap) → f from ≡ tap) → one_value f ≡ Some tap
+always_one f tap h = ap one_value (λ j from. h from j) ∙ constant tap
 
 pub below_16 : (tap : Tap) → tap_number tap < 16
 below_16 Reset = omega arith
@@ -133,31 +100,63 @@ below_16 IrUpdate = omega arith
 no_number : (tap : Tap) → 16 ≡ tap_number tap → ⊥
 no_number tap e = let less = below_16 tap in omega (arith, less, e)
 
-is_in : (control : Control) (tap : Tap) → shown_number control ≡ tap_number tap → control ≡ In tap
-is_in (In state) tap e = ap In (tap_number-injective state tap e)
-is_in (Unknown ones) tap e = absurd (no_number tap e)
+is_some : (known : Option Tap) (tap : Tap) → shown_number known ≡ tap_number tap → known ≡ Some tap
+is_some (Some state) tap e = ap Some (tap_number-injective state tap e)
+is_some None tap e = absurd (no_number tap e)
 
-pub shown_exactly : (items : List Item) (tap : Tap) → (shown_after items ≡ tap_number tap) ↔ LeadsFromReset (tms_values items) tap
-shown_exactly items tap = (
-  (λ e. five_ones_stand 0 (tms_values items) tap (omega arith) (is_in (known_after (Unknown 0) (tms_values items)) tap (sym (shown_is items) ∙ e))),
-  (λ h. shown_is items ∙ ap shown_number (is_known (tms_values items) tap h)),
+-- where a controller is after clocks, by its state before them
+abbrev led : List Item → Tap → Tap
+led items from = walk from (tms_values items)
+
+settled_is : (items : List Item) → settled_after items ≡ one_value (led items)
+settled_is items = ap settled_state (led_is (tms_values items) all_states)
+
+pub shown_exactly : (items : List Item) (tap : Tap) →
+    (shown_after items ≡ tap_number tap) ↔ LeadFromEach (tms_values items) tap
+shown_exactly items tap =
+    let known = is_some (settled_after items) tap in (
+      (λ e. always (led items) tap (sym (settled_is items) ∙ known (sym (shown_is items) ∙ e))),
+      (λ h. shown_is items ∙ ap shown_number (settled_is items ∙ always_one (led items) tap h)),
+    )
+
+unknown_else : (items : List Item) (known : Option Tap) → shown_after items ≡ shown_number known →
+    ((tap : Tap) → LeadFromEach (tms_values items) tap → ⊥) → shown_after items ≡ 16
+unknown_else items (Some tap) e none = absurd (none tap ((shown_exactly items tap).0 e))
+unknown_else items None e none = e
+
+pub unknown_exactly : (items : List Item) →
+    (shown_after items ≡ 16) ↔ ((tap : Tap) → LeadFromEach (tms_values items) tap → ⊥)
+unknown_exactly items = (
+  (λ e tap h. no_number tap (sym e ∙ (shown_exactly items tap).1 h)),
+  unknown_else items (settled_after items) (shown_is items),
 )
+
+-- ---- from a state that is shown on
+
+walk-append : (from : Tap) (front rest : List Bool) → walk from (front ++ rest) ≡ walk (walk from front) rest
+walk-append from [] rest = refl
+walk-append from (tms ∷ front) rest = walk-append (next_of from tms) front rest
+
+values-append : (items more : List Item) → tms_values (items ++ more) ≡ tms_values items ++ tms_values more
+values-append [] more = refl
+values-append (Clocked digit ∷ items) more = ap (λ values. (input_of_pin digit).tms ∷ values) (values-append items more)
+values-append (Waited usec ∷ items) more = values-append items more
+
+pub stays_shown : (items more : List Item) (tap : Tap) → shown_after items ≡ tap_number tap →
+    shown_after (items ++ more) ≡ tap_number (walk tap (tms_values more))
+stays_shown items more tap e = (shown_exactly (items ++ more) (walk tap (tms_values more))).1 leads
+  where
+    leads : LeadFromEach (tms_values (items ++ more)) (walk tap (tms_values more))
+    leads from =
+        ap (walk from) (values-append items more) ∙ walk-append from (tms_values items) (tms_values more)
+        ∙ ap (λ (state : Tap). walk state (tms_values more)) ((shown_exactly items tap).0 e from)
 
 from_each : (values : List Bool) (tap : Tap) → LeadsFromReset values tap → LeadFromEach values tap
 from_each values tap h from =
-    ap (walk from) h.parts ∙ walk-append from h.front (five_ones ++ h.rest) ∙ walk-append (walk from h.front) five_ones h.rest
+    ap (walk from) h.parts ∙ walk-append from h.front (five_ones ++ h.rest)
+    ∙ walk-append (walk from h.front) five_ones h.rest
     ∙ ap (λ (state : Tap). walk state h.rest) (five_ones_lead (walk from h.front)) ∙ h.leads
 
-pub sure : (items : List Item) (tap : Tap) → shown_after items ≡ tap_number tap → LeadFromEach (tms_values items) tap
-sure items tap e = from_each (tms_values items) tap ((shown_exactly items tap).0 e)
-
-unknown_else : (items : List Item) (control : Control) → shown_after items ≡ shown_number control → ((tap : Tap) → LeadsFromReset (tms_values items) tap → ⊥) →
-    shown_after items ≡ 16
-unknown_else items (In tap) e none = absurd (none tap ((shown_exactly items tap).0 e))
-unknown_else items (Unknown ones) e none = e
-
-pub unknown_exactly : (items : List Item) → (shown_after items ≡ 16) ↔ ((tap : Tap) → LeadsFromReset (tms_values items) tap → ⊥)
-unknown_exactly items = (
-  (λ e tap h. no_number tap (sym e ∙ (shown_exactly items tap).1 h)),
-  unknown_else items (known_after (Unknown 0) (tms_values items)) (shown_is items),
-)
+pub settled_by_five_ones : (items : List Item) (tap : Tap) → LeadsFromReset (tms_values items) tap →
+    shown_after items ≡ tap_number tap
+settled_by_five_ones items tap h = (shown_exactly items tap).1 (from_each (tms_values items) tap h)

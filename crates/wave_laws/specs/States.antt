@@ -1,4 +1,4 @@
--- Which states of the controllers are sure after clocks, whatever they were before the first. Source: IEEE 1149.1, TAP
+-- To which state clocks lead, whatever state the controllers were in before the first. Source: IEEE 1149.1, TAP
 -- controller state diagram.
 use Rattle.std.specs.Prelude.{◌≡◌, ℕ, Bool, List, [], ◌∷◌, ◌++◌}
 use Rattle.tap_states.specs.declared.Tap.{Tap}

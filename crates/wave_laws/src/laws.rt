@@ -1,27 +1,51 @@
 //! Laws of the definitions.
-ghost use Rattle.std.specs.Prelude.{◌≡◌, ◌<◌, ◌^◌, ◌↔◌, ℕ, List, codes};
+ghost use Rattle.std.specs.Prelude.{◌≡◌, ◌<◌, ◌^◌, ◌↔◌, ◌++◌, ℕ, List, codes, map};
 ghost use Rattle.std.specs.Str.Parse.{digits_value};
 ghost use Rattle.tap_states.specs.declared.Tap.{Tap};
+ghost use Rattle.tap_states.specs.declared.Tap.TheVariants.{Reset, Idle, DrSelect, DrShift};
 ghost use Rattle.tap_states.specs.Tap.{tap_number};
-ghost use Rattle.wave_tool.specs.Items.{Item};
+ghost use Rattle.tap_states.specs.Path.{walk};
+ghost use Rattle.wave_tool.specs.Items.{Item, Clocked};
 ghost use Rattle.wave_tool.specs.Waves.{wave_text};
 ghost use Rattle.wave_laws.specs.States.{tms_values, shown_after, LeadFromEach, LeadsFromReset};
 ghost use Rattle.wave_laws.specs.Readers.{view_of, state_levels, rises_of, length_of};
 
-/// A state is shown exactly if five ones in a row have led to Test-Logic-Reset, and the clocks since then to this
-/// state. Then the clocks lead to it from each of the sixteen states. Else the state is unknown, which is shown by 16.
-pub fn a_state_is_shown_after_five_ones()
+/// A state is shown exactly if the clocks lead to it from each of the sixteen states. If there is no such state, it is
+/// unknown, which is shown by 16.
+pub fn a_state_is_shown_if_each_state_leads_to_it()
     ensures shown { (items : List Item) (tap : Tap) →
-        (shown_after items ≡ tap_number tap) ↔ LeadsFromReset (tms_values items) tap }
-    ensures sure { (items : List Item) (tap : Tap) → shown_after items ≡ tap_number tap →
-        LeadFromEach (tms_values items) tap }
+        (shown_after items ≡ tap_number tap) ↔ LeadFromEach (tms_values items) tap }
     ensures unknown { (items : List Item) →
-        (shown_after items ≡ 16) ↔ ((tap : Tap) → LeadsFromReset (tms_values items) tap → ⊥) }
+        (shown_after items ≡ 16) ↔ ((tap : Tap) → LeadFromEach (tms_values items) tap → ⊥) }
+{}
+
+/// Five ones in a row lead to Test-Logic-Reset, whatever came before them, and the clocks since then to the state that
+/// is shown. Once a state is shown, further clocks lead from it to the state that is shown after them.
+pub fn a_state_that_is_shown_stays_known()
+    ensures five_ones { (items : List Item) (tap : Tap) → LeadsFromReset (tms_values items) tap →
+        shown_after items ≡ tap_number tap }
+    ensures stays { (items more : List Item) (tap : Tap) → shown_after items ≡ tap_number tap →
+        shown_after (items ++ more) ≡ tap_number (walk tap (tms_values more)) }
+{}
+
+/// Six clocks may show a state without five ones in a row, while the first five of them show none. Zeros alone show
+/// none, nor do four ones, nor seven clocks that lead to one state from all but Run-Test/Idle, Update-DR and Update-IR.
+/// A digit 4 is a clock with TMS 1, and 0 one with TMS 0.
+pub fn examples_of_shown_states()
+    ensures idle { shown_after (map Clocked (codes "040440")) ≡ tap_number Idle }
+    ensures a_clock_before { shown_after (map Clocked (codes "04044")) ≡ 16 }
+    ensures select { shown_after (map Clocked (codes "040444")) ≡ tap_number DrSelect }
+    ensures shift { shown_after (map Clocked (codes "04044400")) ≡ tap_number DrShift }
+    ensures five_ones { shown_after (map Clocked (codes "44444")) ≡ tap_number Reset }
+    ensures four_ones { shown_after (map Clocked (codes "4444")) ≡ 16 }
+    ensures four_ones_twice { shown_after (map Clocked (codes "444404444")) ≡ 16 }
+    ensures all_but_three { shown_after (map Clocked (codes "4404044")) ≡ 16 }
+    ensures zeros { shown_after (map Clocked (codes "0000000000000000")) ≡ 16 }
 {}
 
 /// A reader of the dump sees TCK rise for each clock, at its time and with its TMS, TDI and TDO, and for no other, and
-/// how long all takes. At the end the four wires of the state spell the number of the state in binary digits, exactly
-/// if it is sure; else each of them is unknown.
+/// how long all takes. At the end the four wires of the state spell the number of a state in binary digits, exactly if
+/// the clocks lead to it from each of the sixteen; else each of them is unknown.
 pub fn a_reader_sees_the_clocks()
     ensures rises { (items : List Item) → length_of items < 2 ^ 64 →
         (view_of (wave_text items)).rises ≡ rises_of 0 items }
@@ -29,10 +53,10 @@ pub fn a_reader_sees_the_clocks()
         (view_of (wave_text items)).time ≡ length_of items }
     ensures state { (items : List Item) (tap : Tap) → length_of items < 2 ^ 64 →
         (digits_value 2 (state_levels (view_of (wave_text items))) ≡ tap_number tap) ↔
-        LeadsFromReset (tms_values items) tap }
+        LeadFromEach (tms_values items) tap }
     ensures unknown { (items : List Item) → length_of items < 2 ^ 64 →
         (state_levels (view_of (wave_text items)) ≡ codes "xxxx") ↔
-        ((tap : Tap) → LeadsFromReset (tms_values items) tap → ⊥) }
+        ((tap : Tap) → LeadFromEach (tms_values items) tap → ⊥) }
 {}
 
 /// Two lists of clocks and waits with one dump have the same clocks at the same times, and take as long.

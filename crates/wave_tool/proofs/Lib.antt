@@ -2,3 +2,4 @@ pub mod WaveLemmas
 pub mod WordLemmas
 pub mod OneAnswer
 pub mod AnswerLemmas
+pub mod Settled

@@ -16,10 +16,9 @@ use Rattle.tool_io.proofs.PutLemmas.{put_then, put_then_front, front_with, puts_
 use Rattle.pin_lines.specs.PinLines.{lines_of, is_bad_line, has_bad_line, line_digits}
 use Rattle.trace_check.proofs.LineLemmas.{drop_twice}
 use Rattle.trace_check.proofs.TraceLemmas.{digits_short}
-use Rattle.wave_tool.specs.declared.wave.Wave.{Wave}
 use Rattle.wave_tool.specs.declared.wave.Levels.{Levels}
 use Rattle.wave_tool.specs.Items.{Item, Clocked, Waited, most_usec, after_wait, is_usec, waits_in, line_waits, line_items, items_in}
-use Rattle.wave_tool.specs.Waves.{changes, are_same, time_line, moment, item_text, after_item, items_text, after_items, first_wave}
+use Rattle.wave_tool.specs.Waves.{Wave, changes, are_same, time_line, moment, item_text, after_item, items_text, after_items, first_wave}
 
 pub text_join : (xs ys : List Item) (w : Wave) → items_text w (xs ++ ys) ≡ items_text w xs ++ items_text (after_items w xs) ys
 text_join [] ys w = refl

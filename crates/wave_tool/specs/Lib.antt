@@ -1,4 +1,5 @@
 pub mod Items
+pub mod States
 pub mod Waves
 pub mod Found
 pub mod Words

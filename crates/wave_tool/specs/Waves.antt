@@ -1,28 +1,25 @@
 -- A wave: the wires of a test access port over time (IEEE 1149.1), as a Value Change Dump with four states (IEEE 1364,
 -- value change dump files). That a microsecond is one step of time, that a clock takes two, and the names are this
 -- profile's.
-use Rattle.std.specs.Prelude.{ℕ, pos, ◌+◌, ◌/◌, ◌%◌, ◌==◌, ◌&&◌, nat_le, Bool, true, false, List, [], ◌∷◌, ◌++◌, codes, if◌then◌else◌}
+use Rattle.std.specs.Prelude.{ℕ, pos, ◌+◌, ◌/◌, ◌%◌, ◌==◌, ◌&&◌, Bool, true, false, List, [], ◌∷◌, ◌++◌, codes, Option, None, Some, if◌then◌else◌}
 use Rattle.tool_io.specs.Texts.{number_line}
-use Rattle.tap_states.specs.declared.Tap.TheVariants.{Reset}
-use Rattle.tap_states.specs.Tap.{next_of, tap_number}
+use Rattle.tap_states.specs.declared.Tap.{Tap}
+use Rattle.tap_states.specs.Tap.{tap_number}
 use Rattle.pin_lines.specs.PinLines.{input_of_pin, clock_of_pin}
-use Rattle.wave_tool.specs.declared.wave.Control.{Control}
-use Rattle.wave_tool.specs.declared.wave.Control.TheVariants.{Unknown, In}
 use Rattle.wave_tool.specs.declared.wave.Levels.{Levels}
-use Rattle.wave_tool.specs.declared.wave.Wave.{Wave}
 use Rattle.wave_tool.specs.Items.{Item, Clocked, Waited}
+use Rattle.wave_tool.specs.States.{all_states, states_after, settled_state}
 
--- The state of the controllers after a clock with this TMS. It is not known until five ones have come in a row, which
--- lead from each state to Test-Logic-Reset.
-abbrev pub control_after : Control → Bool → Control
-control_after (In tap) tms = In (next_of tap tms)
-control_after (Unknown ones) true = if nat_le 4 ones then In Reset else Unknown (ones + 1)
-control_after (Unknown ones) false = Unknown 0
+-- A wave up to a time: the levels of the wires, and the states in which the controllers may be.
+pub record Wave : Type 0 where
+  pub time : ℕ
+  pub levels : Levels
+  pub states : List Tap
 
--- the number that is shown of it: that of the state, or 16
-abbrev pub shown_number : Control → ℕ
-shown_number (In tap) = tap_number tap
-shown_number (Unknown ones) = 16
+-- the number that is shown of a state, or 16 if it is not known
+abbrev pub shown_number : Option Tap → ℕ
+shown_number (Some state) = tap_number state
+shown_number None = 16
 
 -- the level of a wire, as the dump has it
 abbrev pub level_of : Bool → ℕ
@@ -63,7 +60,8 @@ time_line time = number_line (codes "#") (pos time)
 abbrev pub moment : ℕ → Levels → Levels → List ℕ
 moment time old new = if are_same old new then [] else time_line time ++ changes old new
 
--- A clock: TCK goes to 0 with the clock's TMS, TDI and TDO, and a step later to 1, with the state after the clock.
+-- A clock: TCK goes to 0 with the clock's TMS, TDI and TDO, and a step later to 1, with the state after the clock. It
+-- is known if the controllers can be in one alone.
 abbrev pub low_levels : Levels → ℕ → Levels
 low_levels old digit = record old {
   tck = 48;
@@ -72,12 +70,11 @@ low_levels old digit = record old {
   tdo = level_of (clock_of_pin digit).tdo;
 }
 
-abbrev pub control_of : Control → ℕ → Control
-control_of control digit = control_after control (input_of_pin digit).tms
+abbrev pub states_clocked : List Tap → ℕ → List Tap
+states_clocked states digit = states_after states (input_of_pin digit).tms
 
-abbrev pub high_levels : Levels → Control → ℕ → Levels
-high_levels old control digit =
-    record (low_levels old digit) { tck = 49; state = shown_number (control_of control digit) }
+abbrev pub high_levels : Levels → List Tap → ℕ → Levels
+high_levels old after digit = record (low_levels old digit) { tck = 49; state = shown_number (settled_state after) }
 
 -- while nothing is clocked TCK is 0
 abbrev pub rest_levels : Levels → Levels
@@ -87,12 +84,13 @@ rest_levels old = record old { tck = 48 }
 abbrev pub item_text : Wave → Item → List ℕ
 item_text w (Clocked digit) =
     moment w.time w.levels (low_levels w.levels digit)
-    ++ moment (w.time + 1) (low_levels w.levels digit) (high_levels w.levels w.control digit)
+    ++ moment (w.time + 1) (low_levels w.levels digit) (high_levels w.levels (states_clocked w.states digit) digit)
 item_text w (Waited usec) = moment w.time w.levels (rest_levels w.levels)
 
 abbrev pub after_item : Wave → Item → Wave
 after_item w (Clocked digit) =
-    record { time = w.time + 2; levels = high_levels w.levels w.control digit; control = control_of w.control digit }
+    let after = states_clocked w.states digit in
+    record { time = w.time + 2; levels = high_levels w.levels after digit; states = after }
 after_item w (Waited usec) = record w { time = w.time + usec; levels = rest_levels w.levels }
 
 -- the same of items, one after the other
@@ -104,10 +102,10 @@ abbrev pub after_items : Wave → List Item → Wave
 after_items w [] = w
 after_items w (item ∷ items) = after_items (after_item w item) items
 
--- before the first item TCK is 0, and nothing else is known (x, 120)
+-- before the first item TCK is 0, and nothing else is known (x, 120): the controllers may be in each state
 abbrev pub first_wave : Wave
 first_wave =
-    record { time = 0; levels = record { tck = 48; tms = 120; tdi = 120; tdo = 120; state = 16 }; control = Unknown 0 }
+    record { time = 0; levels = record { tck = 48; tms = 120; tdi = 120; tdo = 120; state = 16 }; states = all_states }
 
 -- the end of a dump: the time is told, and TCK is 0
 abbrev pub end_text : Wave → List ℕ

@@ -5,11 +5,13 @@ mod answering;
 mod help;
 mod items;
 pub mod laws;
+mod possible;
 mod status;
 mod wave;
 mod waver;
 mod words;
 
+pub use possible::Possible;
 pub use status::WaveStatus;
-pub use wave::{Control, Levels, Wave, put_wave};
+pub use wave::{Levels, Progress, put_wave};
 pub use waver::Waver;

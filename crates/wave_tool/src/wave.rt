@@ -4,23 +4,15 @@ ghost use Rattle.trace_check.specs.Limits.{trace_limit};
 ghost use Rattle.tool_io.specs.Lines.{IsWhole, HasPut};
 ghost use Rattle.pin_lines.specs.PinLines.{is_bad_line, has_bad_line};
 ghost use Rattle.wave_tool.specs.Items.{Clocked, Waited, most_usec, line_items, items_in};
-ghost use Rattle.wave_tool.specs.Found.{waits_found};
-ghost use Rattle.wave_tool.specs.Waves.{control_after, shown_number, level_of, wire_change, state_level, state_wire, state_change, changes, are_same, time_line, moment, low_levels, high_levels, control_of, rest_levels, item_text, after_item, items_text, after_items, first_wave, end_text, head_text, wave_text};
+ghost use Rattle.wave_tool.specs.Found.{waits_found, states_held, wave_held};
+ghost use Rattle.wave_tool.specs.Waves.{shown_number, level_of, wire_change, state_level, state_wire, state_change, changes, are_same, time_line, moment, low_levels, high_levels, rest_levels, item_text, after_item, items_text, after_items, first_wave, end_text, head_text, wave_text};
 
 use crate::items::wait_of;
+use crate::possible::Possible;
 use pin_lines::{tdi_of, tdo_of, tms_of};
 use tap_states::Tap;
 use tool_io::{Failed, Lines, Sink, put_number_line};
 use trace_check::{digits_of, first_line};
-
-/// What is known of the state of the controllers.
-#[derive(Clone, Copy)]
-pub enum Control {
-    /// Nothing; so many ones have come last, up to four.
-    Unknown(u8),
-    /// The state.
-    In(Tap),
-}
 
 /// The levels of the wires, as the dump has them, and the number of the state, or 16.
 #[derive(Clone, Copy)]
@@ -32,12 +24,12 @@ pub struct Levels {
     state: u8,
 }
 
-/// A wave up to a time, in microseconds.
+/// How far a wave has come: the time, in microseconds, the levels then, and in which states the controllers may be.
 #[derive(Clone, Copy)]
-pub struct Wave {
+pub struct Progress {
     time: u64,
     levels: Levels,
-    control: Control,
+    possible: Possible,
 }
 
 // The declarations of a dump, and the levels at time 0, before the first item.
@@ -73,27 +65,13 @@ fn level_of(bit: bool) -> u8
     if bit { b'1' } else { b'0' }
 }
 
-impl Control {
-    // What is known after a clock with this TMS.
-    fn after(self, tms: bool) -> Control
-        ensures { result ≡ control_after self tms }
-    {
-        match self {
-            Control::In(tap) => Control::In(tap.next(tms)),
-            Control::Unknown(_) if !tms => Control::Unknown(0),
-            Control::Unknown(ones) if ones >= 4 => Control::In(Tap::Reset),
-            Control::Unknown(ones) => Control::Unknown(ones + 1),
-        }
-    }
-
-    // The number that is shown of the state.
-    fn shown(self) -> u8
-        ensures { result ≡ shown_number self }
-    {
-        match self {
-            Control::In(tap) => tap.number(),
-            Control::Unknown(_) => 16,
-        }
+// The number that is shown of a state, or 16 if it is not known.
+fn shown_number(state: Option<Tap>) -> u8
+    ensures { result ≡ shown_number state }
+{
+    match state {
+        Some(tap) => tap.number(),
+        None => 16,
     }
 }
 
@@ -223,13 +201,13 @@ fn low_levels(old: Levels, digit: u8) -> Levels
     }
 }
 
-fn high_levels(old: Levels, control: Control, digit: u8) -> Levels
+fn high_levels(old: Levels, after: Possible, digit: u8) -> Levels
     requires { 48 ≤ digit }
-    ensures { result ≡ high_levels old control digit }
+    ensures { result ≡ high_levels old (states_held after) digit }
 {
     Levels {
         tck: b'1',
-        state: control.after(tms_of(digit)).shown(),
+        state: shown_number(after.settled()),
         ..low_levels(old, digit)
     }
 }
@@ -241,25 +219,26 @@ fn rest_levels(old: Levels) -> Levels
 }
 
 // The wave after a clock.
-fn after_clock(wave: Wave, digit: u8) -> Wave
+fn after_clock(wave: Progress, digit: u8) -> Progress
     requires digit { 48 ≤ digit }
     requires small { wave.time + 2 < 2 ^ 63 }
-    ensures { result ≡ after_item wave (Clocked digit) }
+    ensures { wave_held result ≡ after_item (wave_held wave) (Clocked digit) }
 {
-    Wave {
+    let possible = wave.possible.after(tms_of(digit));
+    Progress {
         time: wave.time + 2,
-        levels: high_levels(wave.levels, wave.control, digit),
-        control: wave.control.after(tms_of(digit)),
+        levels: high_levels(wave.levels, possible, digit),
+        possible,
     }
 }
 
 // Puts a clock, and gives the wave after it.
-fn put_clock<K: Sink>(lines: &mut Lines<K>, wave: Wave, digit: u8) -> Result<Wave, Failed>
+fn put_clock<K: Sink>(lines: &mut Lines<K>, wave: Progress, digit: u8) -> Result<Progress, Failed>
     requires whole { IsWhole lines.old }
     requires digit { 48 ≤ digit }
     requires small { wave.time + 2 < 2 ^ 63 }
-    ensures next { IfOk result (λ after. after ≡ after_item wave (Clocked digit)) }
-    ensures put { HasPut K.Sink lines.old (item_text wave (Clocked digit)) lines.new result }
+    ensures next { IfOk result (λ after. wave_held after ≡ after_item (wave_held wave) (Clocked digit)) }
+    ensures put { HasPut K.Sink lines.old (item_text (wave_held wave) (Clocked digit)) lines.new result }
 {
     let low = low_levels(wave.levels, digit);
     let after = after_clock(wave, digit);
@@ -269,12 +248,16 @@ fn put_clock<K: Sink>(lines: &mut Lines<K>, wave: Wave, digit: u8) -> Result<Wav
 }
 
 // Puts the clocks of some digits, and gives the wave after them.
-fn put_digits<K: Sink>(lines: &mut Lines<K>, wave: Wave, digits: &[u8]) -> Result<Wave, Failed>
+fn put_digits<K: Sink>(
+    lines: &mut Lines<K>,
+    wave: Progress,
+    digits: &[u8],
+) -> Result<Progress, Failed>
     requires whole { IsWhole lines.old }
     requires digits { (k : ℕ) → k < length digits.now → 48 ≤ slice_index_or digits.now k 48 }
     requires small { wave.time + 2 * length digits.now < 2 ^ 63 }
-    ensures next { IfOk result (λ after. after ≡ after_items wave (map Clocked digits.now)) }
-    ensures put { HasPut K.Sink lines.old (items_text wave (map Clocked digits.now)) lines.new result }
+    ensures next { IfOk result (λ after. wave_held after ≡ after_items (wave_held wave) (map Clocked digits.now)) }
+    ensures put { HasPut K.Sink lines.old (items_text (wave_held wave) (map Clocked digits.now)) lines.new result }
 {
     let mut after = wave;
     let mut n = 0;
@@ -286,24 +269,28 @@ fn put_digits<K: Sink>(lines: &mut Lines<K>, wave: Wave, digits: &[u8]) -> Resul
 }
 
 // The wave after a wait.
-fn after_wait(wave: Wave, usec: u64) -> Wave
+fn after_wait(wave: Progress, usec: u64) -> Progress
     requires { wave.time + usec < 2 ^ 63 }
-    ensures { result ≡ after_item wave (Waited usec) }
+    ensures { wave_held result ≡ after_item (wave_held wave) (Waited usec) }
 {
-    Wave {
+    Progress {
         time: wave.time + usec,
         levels: rest_levels(wave.levels),
-        control: wave.control,
+        possible: wave.possible,
     }
 }
 
 // Puts a wait, if there is one, and gives the wave after it.
-fn put_wait<K: Sink>(lines: &mut Lines<K>, wave: Wave, wait: Option<u64>) -> Result<Wave, Failed>
+fn put_wait<K: Sink>(
+    lines: &mut Lines<K>,
+    wave: Progress,
+    wait: Option<u64>,
+) -> Result<Progress, Failed>
     requires whole { IsWhole lines.old }
     requires short { IfSome wait (λ usec. usec ≤ most_usec) }
     requires small { wave.time + most_usec < 2 ^ 63 }
-    ensures next { IfOk result (λ after. after ≡ after_items wave (waits_found wait)) }
-    ensures put { HasPut K.Sink lines.old (items_text wave (waits_found wait)) lines.new result }
+    ensures next { IfOk result (λ after. wave_held after ≡ after_items (wave_held wave) (waits_found wait)) }
+    ensures put { HasPut K.Sink lines.old (items_text (wave_held wave) (waits_found wait)) lines.new result }
 {
     let Some(usec) = wait else {
         return Ok(wave);
@@ -314,23 +301,23 @@ fn put_wait<K: Sink>(lines: &mut Lines<K>, wave: Wave, wait: Option<u64>) -> Res
 }
 
 // Puts the clocks and the wait of a line, and gives the wave after them.
-fn put_line<K: Sink>(lines: &mut Lines<K>, wave: Wave, line: &[u8]) -> Result<Wave, Failed>
+fn put_line<K: Sink>(lines: &mut Lines<K>, wave: Progress, line: &[u8]) -> Result<Progress, Failed>
     requires whole { IsWhole lines.old }
     requires good { is_bad_line line.now ≡ false }
     requires small { wave.time + (2 * length line.now + most_usec) < 2 ^ 63 }
-    ensures next { IfOk result (λ after. after ≡ after_items wave (line_items line.now)) }
-    ensures put { HasPut K.Sink lines.old (items_text wave (line_items line.now)) lines.new result }
+    ensures next { IfOk result (λ after. wave_held after ≡ after_items (wave_held wave) (line_items line.now)) }
+    ensures put { HasPut K.Sink lines.old (items_text (wave_held wave) (line_items line.now)) lines.new result }
 {
     let clocked = put_digits(lines, wave, digits_of(line))?;
     put_wait(lines, clocked, wait_of(line))
 }
 
 // Puts the clocks and the waits of a text, and gives the wave after them.
-fn put_items<K: Sink>(lines: &mut Lines<K>, text: &[u8]) -> Result<Wave, Failed>
+fn put_items<K: Sink>(lines: &mut Lines<K>, text: &[u8]) -> Result<Progress, Failed>
     requires whole { IsWhole lines.old }
     requires few { length text.now ≤ trace_limit }
     requires good { has_bad_line text.now ≡ false }
-    ensures next { IfOk result (λ after. after ≡ after_items first_wave (items_in text.now)) }
+    ensures next { IfOk result (λ after. wave_held after ≡ after_items first_wave (items_in text.now)) }
     ensures small { IfOk result (λ after. after.time < 2 ^ 63) }
     ensures put { HasPut K.Sink lines.old (items_text first_wave (items_in text.now)) lines.new result }
 {
@@ -345,10 +332,10 @@ fn put_items<K: Sink>(lines: &mut Lines<K>, text: &[u8]) -> Result<Wave, Failed>
 }
 
 // The wave before the first item.
-fn first_wave() -> Wave
-    ensures { result ≡ first_wave }
+fn first_wave() -> Progress
+    ensures { wave_held result ≡ first_wave }
 {
-    Wave {
+    Progress {
         time: 0,
         levels: Levels {
             tck: b'0',
@@ -357,15 +344,15 @@ fn first_wave() -> Wave
             tdo: b'x',
             state: 16,
         },
-        control: Control::Unknown(0),
+        possible: Possible::all(),
     }
 }
 
 // Puts the end of a dump.
-fn put_end<K: Sink>(lines: &mut Lines<K>, wave: Wave) -> Result<(), Failed>
+fn put_end<K: Sink>(lines: &mut Lines<K>, wave: Progress) -> Result<(), Failed>
     requires whole { IsWhole lines.old }
     requires small { wave.time < 2 ^ 63 }
-    ensures { HasPut K.Sink lines.old (end_text wave) lines.new result }
+    ensures { HasPut K.Sink lines.old (end_text (wave_held wave)) lines.new result }
 {
     put_times(lines, wave.time, wave.levels, rest_levels(wave.levels))
 }
@@ -374,8 +361,8 @@ fn put_end<K: Sink>(lines: &mut Lines<K>, wave: Wave) -> Result<(), Failed>
 /// the text is bad.
 ///
 /// A clock takes two steps of a microsecond each: TCK goes to 0 with TMS, TDI and TDO of the clock, and then to 1, with
-/// the state of the controllers after it, which is unknown until five ones have come in a row. A wait takes its
-/// microseconds. Only what changes is written. It takes no memory, and time linear in the length of the text.
+/// the state of the controllers after it, which is unknown until each of the sixteen states leads to one. A wait takes
+/// its microseconds. Only what changes is written. It takes no memory, and time linear in the length of the text.
 ///
 /// `Failed` as of the sink.
 pub fn put_wave<K: Sink>(lines: &mut Lines<K>, text: &[u8]) -> Result<(), Failed>

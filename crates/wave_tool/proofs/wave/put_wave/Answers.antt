@@ -1,4 +1,5 @@
-use Rattle.tool_io.proofs.PutLemmas.{put_then, put_then_front, front_with, put_failed}
+use Rattle.std.proofs.Common.{ap}
+use Rattle.tool_io.proofs.PutLemmas.{put_then, put_then_front, front_with, front_same, puts_same, put_failed}
 use Rattle.wave_tool.specs.Items.{items_in}
 use Rattle.wave_tool.specs.Waves.{first_wave, items_text, after_items, end_text}
 use Rattle.wave_tool.proofs.wave.put_wave.Goals as goal
@@ -16,8 +17,9 @@ returns-in_err-wave g c =
 pub returns-in_err-put_end : goal.returns-in_err-put_end
 returns-in_err-put_end g c =
     put_failed c.from_residual-in_err-put_end.result c.from_residual-in_err-put_end.ensures.0
-    (put_then_front (put_then c.in_ok-put.ensures.put c.in_ok-wave.ensures.put) (rw c.in_ok-wave.ensures.next at c.in_err-put_end.ensures))
+    (put_then_front (put_then c.in_ok-put.ensures.put c.in_ok-wave.ensures.put) (front_same (ap end_text c.in_ok-wave.ensures.next) c.in_err-put_end.ensures))
 
 pub returns : goal.returns
 returns g c =
-    put_then (put_then c.in_ok-put.ensures.put c.in_ok-wave.ensures.put) (rw c.in_ok-wave.ensures.next at c.in_ok-put_end.ensures)
+    put_then (put_then c.in_ok-put.ensures.put c.in_ok-wave.ensures.put)
+    (puts_same (ap end_text c.in_ok-wave.ensures.next) c.in_ok-put_end.ensures)
