@@ -1,6 +1,6 @@
 -- What a reader sees of a dump.
-use Rattle.std.proofs.Common.{◌≡◌, ◌<◌, ◌+◌, ◌/◌, ◌%◌, ◌^◌, ◌∙◌, ℕ, Bool, true, false, List, [], ◌∷◌, ◌++◌, Option, None, Some, refl, sym, ap, append_assoc, append-nil, arith}
-use Rattle.std.specs.Prelude.{◌==◌, ◌↔◌, codes, if◌then◌else◌}
+use Rattle.std.proofs.Common.{◌≡◌, ◌<◌, ◌+◌, ◌/◌, ◌%◌, ◌^◌, ◌∙◌, ℕ, Bool, true, false, List, [], ◌∷◌, ◌++◌, map, Option, None, Some, refl, sym, ap, subst, append_assoc, append-nil, arith}
+use Rattle.std.specs.Prelude.{◌==◌, codes, if◌then◌else◌}
 use Rattle.std.specs.Str.Parse.{digits_value}
 use Rattle.std.proofs.lemmas.Bool.{and_parts}
 use Rattle.std.proofs.lemmas.Bool.Decides.{nat_tests}
@@ -10,10 +10,11 @@ use Rattle.tap_states.specs.Tap.{tap_number}
 use Rattle.pin_lines.specs.PinLines.{lines_of, input_of_pin, clock_of_pin}
 use Rattle.wave_tool.specs.declared.wave.Levels.{Levels}
 use Rattle.wave_tool.specs.Items.{Item, Clocked, Waited}
+use Rattle.wave_tool.specs.States.{all_states, states_after, settled_state}
 use Rattle.wave_tool.specs.Waves.{Wave, level_of, wire_change, state_level, state_wire, changes, are_same, time_line, moment, low_levels, high_levels, states_clocked, rest_levels, item_text, after_item, items_text, after_items, shown_number, first_wave, end_text, head_text, wave_text}
-use Rattle.wave_laws.specs.Readers.{Rise, View, after_lines, no_view, view_of, state_levels, bit_digit, rises_of, length_of}
-use Rattle.wave_laws.specs.States.{tms_values, shown_after, LeadFromEach}
-use Rattle.wave_laws.proofs.ShownStates.{settled_after, shown_is, below_16, shown_exactly, unknown_exactly}
+use Rattle.wave_laws.specs.Readers.{Rise, View, after_lines, no_view, view_of, seen_clocks, states_before, state_levels, IsShown, AreShown, bit_digit, clocks_of, length_of}
+use Rattle.wave_laws.specs.States.{tms_values}
+use Rattle.wave_laws.proofs.ShownStates.{states_led, known_after, shown_is, led_once, below_16, number_exactly, number_unknown}
 use Rattle.wave_laws.proofs.ReadLines.{Reads, reads_both, reads_none, reads_as, reads_time, IsLevel, reads_wire}
 
 -- what is seen if the wires have these levels, and TCK that one
@@ -92,9 +93,16 @@ falls time rises old new low are = others (view_with old.tck time rises old) 48 
         (λ e. ap (λ r. view_with 48 time r old) (append-nil rises) ∙ ap (λ k. view_with k time rises old) (sym e)))
         (ap (λ r. view_with 48 time r old) (append-nil rises)))
 
+-- the levels of the four wires of the state for a number
+abbrev levels_for : ℕ → List ℕ
+levels_for n = state_level 8 n ∷ state_level 4 n ∷ state_level 2 n ∷ state_level 1 n ∷ []
+
 -- the rise of TCK at a time, with these levels
 abbrev rise_at : ℕ → Levels → Rise
-rise_at time l = record { time = time; tms = l.tms; tdi = l.tdi; tdo = l.tdo }
+rise_at time l = record {
+  clock = record { time = time; tms = l.tms; tdi = l.tdi; tdo = l.tdo };
+  state = levels_for l.state;
+}
 
 climbs : (time : ℕ) (rises : List Rise) (old new : Levels) → AreLevels new →
     Reads (view_with 48 time rises old) (changes (record old { tck = 48 }) (record new { tck = 49 })) (view_with 49 time (rises ++ rise_at time old ∷ []) new)
@@ -134,49 +142,60 @@ level_is : (b : Bool) → level_of b ≡ bit_digit b
 level_is true = refl
 level_is false = refl
 
--- the rise that a clock makes
-abbrev rise_of : ℕ → ℕ → Rise
-rise_of time digit = record {
-  time = time + 1;
-  tms = bit_digit (clock_of_pin digit).tms;
-  tdi = bit_digit (clock_of_pin digit).tdi;
-  tdo = bit_digit (clock_of_pin digit).tdo;
+-- the rise that a clock makes, and those of clocks and waits
+abbrev rise_of : Wave → ℕ → Rise
+rise_of w digit = record {
+  clock = record {
+    time = w.time + 1;
+    tms = bit_digit (clock_of_pin digit).tms;
+    tdi = bit_digit (clock_of_pin digit).tdi;
+    tdo = bit_digit (clock_of_pin digit).tdo;
+  };
+  state = levels_for w.levels.state;
 }
 
-rise_is : (time digit : ℕ) (old : Levels) → rise_at (time + 1) (low_levels old digit) ≡ rise_of time digit
-rise_is time digit old = λ j. record {
-  time = time + 1;
-  tms = level_is (clock_of_pin digit).tms j;
-  tdi = level_is (clock_of_pin digit).tdi j;
-  tdo = level_is (clock_of_pin digit).tdo j;
+abbrev rises_from : Wave → List Item → List Rise
+rises_from w [] = []
+rises_from w (Clocked digit ∷ items) = rise_of w digit ∷ rises_from (after_item w (Clocked digit)) items
+rises_from w (Waited usec ∷ items) = rises_from (after_item w (Waited usec)) items
+
+rise_is : (w : Wave) (digit : ℕ) → rise_at (w.time + 1) (low_levels w.levels digit) ≡ rise_of w digit
+rise_is w digit = λ j. record {
+  clock = record {
+    time = w.time + 1;
+    tms = level_is (clock_of_pin digit).tms j;
+    tdi = level_is (clock_of_pin digit).tdi j;
+    tdo = level_is (clock_of_pin digit).tdo j;
+  };
+  state = levels_for w.levels.state;
 }
 
 -- what is seen of one clock
 clock_read : (seen : ℕ) (rises : List Rise) (w : Wave) (digit : ℕ) → w.time + 1 < 2 ^ 64 →
     Reads (view_with w.levels.tck seen rises w.levels) (item_text w (Clocked digit))
-    (view_with 49 (w.time + 1) (rises ++ rise_of w.time digit ∷ []) (high_levels w.levels (states_clocked w.states digit) digit))
+    (view_with 49 (w.time + 1) (rises ++ rise_of w digit ∷ []) (high_levels w.levels (states_clocked w.states digit) digit))
 clock_read seen rises w digit small =
     let low = low_levels w.levels digit in
     let high = high_levels w.levels (states_clocked w.states digit) digit in
     let first = falls_then seen w.time rises w.levels low (omega arith) refl (are_levels w.levels digit) in
     let at_rise = reads_time (view_with 48 first.0 rises low) (w.time + 1) small in
     let last = climbs (w.time + 1) rises low high (record { tms = (are_levels w.levels digit).tms; tdi = (are_levels w.levels digit).tdi; tdo = (are_levels w.levels digit).tdo }) in
-    reads_as (reads_both first.1 (reads_both at_rise last)) (ap (λ r. view_with 49 (w.time + 1) (rises ++ r ∷ []) high) (rise_is w.time digit w.levels))
+    reads_as (reads_both first.1 (reads_both at_rise last)) (ap (λ r. view_with 49 (w.time + 1) (rises ++ r ∷ []) high) (rise_is w digit))
 
 -- what is seen of clocks and waits
 items_read : (seen : ℕ) (rises : List Rise) (items : List Item) (w : Wave) → AreLevels w.levels → w.time + length_of items < 2 ^ 64 →
     (told : ℕ) × Reads (view_with w.levels.tck seen rises w.levels) (items_text w items)
-    (view_with (after_items w items).levels.tck told (rises ++ rises_of w.time items) (after_items w items).levels)
+    (view_with (after_items w items).levels.tck told (rises ++ rises_from w items) (after_items w items).levels)
 items_read seen rises [] w are small = (seen, reads_none (ap (λ r. view_with w.levels.tck seen r w.levels) (sym (append-nil rises))))
 items_read seen rises (Clocked digit ∷ items) w are small =
     let after = after_item w (Clocked digit) in
-    let rise = rise_of w.time digit in
+    let rise = rise_of w digit in
     let low = are_levels w.levels digit in
     let rest = items_read (w.time + 1) (rises ++ rise ∷ []) items after (record { tms = low.tms; tdi = low.tdi; tdo = low.tdo }) (omega arith) in
     let end = after_items after items in (
       rest.0,
       reads_as (reads_both (clock_read seen rises w digit (omega arith)) rest.1)
-          (ap (λ r. view_with end.levels.tck rest.0 r end.levels) (append_assoc rises (rise ∷ []) (rises_of after.time items))),
+          (ap (λ r. view_with end.levels.tck rest.0 r end.levels) (append_assoc rises (rise ∷ []) (rises_from after items))),
     )
 items_read seen rises (Waited usec ∷ items) w are small =
     let resting : AreLevels (rest_levels w.levels) = record { tms = are.tms; tdi = are.tdi; tdo = are.tdo } in
@@ -216,16 +235,25 @@ read_whole v text r = ap (λ t. after_lines no_view (lines_of t)) (sym (append-n
 
 -- a whole dump
 seen_of : (items : List Item) → length_of items < 2 ^ 64 →
-    view_of (wave_text items) ≡ view_with 48 (after_items first_wave items).time (rises_of 0 items) (rest_levels (after_items first_wave items).levels)
+    let w = after_items first_wave items in
+    view_of (wave_text items) ≡ view_with 48 w.time (rises_from first_wave items) (rest_levels w.levels)
 seen_of items small =
     let e = time_after items first_wave in
     let w = after_items first_wave items in
     let items_seen = items_read 0 [] items first_wave first_levels (omega arith) in
-    read_whole (view_with 48 w.time (rises_of 0 items) (rest_levels w.levels)) (wave_text items)
-    (reads_both (reads_both head_read items_seen.1) (end_read items_seen.0 (rises_of 0 items) w (levels_after items first_wave first_levels) (omega (arith, e))))
+    read_whole (view_with 48 w.time (rises_from first_wave items) (rest_levels w.levels)) (wave_text items)
+    (reads_both (reads_both head_read items_seen.1) (end_read items_seen.0 (rises_from first_wave items) w (levels_after items first_wave first_levels) (omega (arith, e))))
 
-pub rises_seen : (items : List Item) → length_of items < 2 ^ 64 → (view_of (wave_text items)).rises ≡ rises_of 0 items
-rises_seen items small = ap (λ (v : View). v.rises) (seen_of items small)
+clocks_from : (items : List Item) (w : Wave) →
+    map (λ (rise : Rise). rise.clock) (rises_from w items) ≡ clocks_of w.time items
+clocks_from [] w = refl
+clocks_from (Clocked digit ∷ items) w =
+    ap (λ clocks. (rise_of w digit).clock ∷ clocks) (clocks_from items (after_item w (Clocked digit)))
+clocks_from (Waited usec ∷ items) w = clocks_from items (after_item w (Waited usec))
+
+pub clocks_seen : (items : List Item) → length_of items < 2 ^ 64 →
+    seen_clocks (view_of (wave_text items)) ≡ clocks_of 0 items
+clocks_seen items small = ap seen_clocks (seen_of items small) ∙ clocks_from items first_wave
 
 pub time_seen : (items : List Item) → length_of items < 2 ^ 64 → (view_of (wave_text items)).time ≡ length_of items
 time_seen items small = ap (λ (v : View). v.time) (seen_of items small) ∙ time_after items first_wave ∙ nothing_before (length_of items)
@@ -234,13 +262,6 @@ time_seen items small = ap (λ (v : View). v.time) (seen_of items small) ∙ tim
     nothing_before n = omega arith
 
 -- ---- the state
-
--- the levels of the four wires for a number
-abbrev levels_for : ℕ → List ℕ
-levels_for n = state_level 8 n ∷ state_level 4 n ∷ state_level 2 n ∷ state_level 1 n ∷ []
-
-levels_seen : (items : List Item) → length_of items < 2 ^ 64 → state_levels (view_of (wave_text items)) ≡ levels_for (shown_after items)
-levels_seen items small = ap state_levels (seen_of items small)
 
 state_spelled : (tap : Tap) → digits_value 2 (levels_for (tap_number tap)) ≡ tap_number tap
 state_spelled Reset = refl
@@ -264,37 +285,60 @@ state_spelled IrUpdate = refl
 no_state : (tap : Tap) → digits_value 2 (codes "xxxx") ≡ tap_number tap → ⊥
 no_state tap e = let less = below_16 tap in omega (arith, less, e)
 
-shown_if_spelled : (known : Option Tap) (n : ℕ) (tap : Tap) → n ≡ shown_number known → digits_value 2 (levels_for n) ≡ tap_number tap → n ≡ tap_number tap
-shown_if_spelled (Some state) n tap is e = is ∙ sym (state_spelled state) ∙ ap (λ k. digits_value 2 (levels_for k)) (sym is) ∙ e
-shown_if_spelled None n tap is e = absurd (no_state tap (ap (λ k. digits_value 2 (levels_for k)) (sym is) ∙ e))
+shown_if_spelled : (known : Option Tap) (tap : Tap) →
+    digits_value 2 (levels_for (shown_number known)) ≡ tap_number tap → shown_number known ≡ tap_number tap
+shown_if_spelled (Some state) tap e = sym (state_spelled state) ∙ e
+shown_if_spelled None tap e = absurd (no_state tap e)
 
-pub state_seen : (items : List Item) (tap : Tap) → length_of items < 2 ^ 64 →
-    (digits_value 2 (state_levels (view_of (wave_text items))) ≡ tap_number tap) ↔ LeadFromEach (tms_values items) tap
-state_seen items tap small =
-    let levels = levels_seen items small in
-    let known = settled_after items in (
-      (λ e. (shown_exactly items tap).0 (shown_if_spelled known (shown_after items) tap (shown_is items) (ap (digits_value 2) (sym levels) ∙ e))),
-      (λ h. ap (digits_value 2) levels ∙ ap (λ n. digits_value 2 (levels_for n)) ((shown_exactly items tap).1 h) ∙ state_spelled tap),
+unknown_if_spelled : (known : Option Tap) → levels_for (shown_number known) ≡ codes "xxxx" → shown_number known ≡ 16
+unknown_if_spelled (Some state) e = absurd (no_state state (ap (digits_value 2) (sym e) ∙ state_spelled state))
+unknown_if_spelled None e = refl
+
+levels_show : (values : List Bool) → IsShown (levels_for (shown_number (known_after values))) values
+levels_show values =
+    let known = known_after values in
+    let unknown = number_unknown values in record {
+      state = λ tap. (
+        (λ e. (number_exactly values tap).0 (shown_if_spelled known tap e)),
+        (λ h. ap (λ n. digits_value 2 (levels_for n)) ((number_exactly values tap).1 h) ∙ state_spelled tap),
+      );
+      unknown = ((λ e. unknown.0 (unknown_if_spelled known e)), (λ none. ap levels_for (unknown.1 none)));
+    }
+
+pub shown_at_end : (items : List Item) → length_of items < 2 ^ 64 →
+    IsShown (state_levels (view_of (wave_text items))) (tms_values items)
+shown_at_end items small =
+    let levels = ap state_levels (seen_of items small) ∙ ap levels_for (shown_is items) in
+    subst (λ l. IsShown l (tms_values items)) (sym levels) (levels_show (tms_values items))
+
+-- the states before clocks that follow others
+shown_from : (items : List Item) (earlier : List Bool) (w : Wave) → w.states ≡ states_led all_states earlier →
+    w.levels.state ≡ shown_number (settled_state w.states) →
+    AreShown earlier (tms_values items) (map (λ (rise : Rise). rise.state) (rises_from w items))
+shown_from [] earlier w states number = refl
+shown_from (Clocked digit ∷ items) earlier w states number =
+    let tms = (input_of_pin digit).tms in
+    let known : w.levels.state ≡ shown_number (known_after earlier) =
+    number ∙ ap (λ s. shown_number (settled_state s)) states in
+    let after : states_after w.states tms ≡ states_led all_states (earlier ++ tms ∷ []) =
+    ap (λ s. states_after s tms) states ∙ sym (led_once all_states earlier tms) in (
+      subst (λ n. IsShown (levels_for n) earlier) (sym known) (levels_show earlier),
+      shown_from items (earlier ++ tms ∷ []) (after_item w (Clocked digit)) after refl,
     )
+shown_from (Waited usec ∷ items) earlier w states number =
+    shown_from items earlier (after_item w (Waited usec)) states number
 
-unknown_if_spelled : (known : Option Tap) (n : ℕ) → n ≡ shown_number known → levels_for n ≡ codes "xxxx" → n ≡ 16
-unknown_if_spelled (Some state) n is e =
-    absurd (no_state state (ap (digits_value 2) (sym e) ∙ ap (λ k. digits_value 2 (levels_for k)) is ∙ state_spelled state))
-unknown_if_spelled None n is e = is
-
-pub unknown_seen : (items : List Item) → length_of items < 2 ^ 64 →
-    (state_levels (view_of (wave_text items)) ≡ codes "xxxx") ↔ ((tap : Tap) → LeadFromEach (tms_values items) tap → ⊥)
-unknown_seen items small =
-    let levels = levels_seen items small in
-    let known = settled_after items in (
-      (λ e. (unknown_exactly items).0 (unknown_if_spelled known (shown_after items) (shown_is items) (sym levels ∙ e))),
-      (λ none. levels ∙ ap levels_for ((unknown_exactly items).1 none)),
-    )
+pub shown_before : (items : List Item) → length_of items < 2 ^ 64 →
+    AreShown [] (tms_values items) (states_before (view_of (wave_text items)))
+shown_before items small =
+    let before = ap states_before (seen_of items small) in
+    subst (AreShown [] (tms_values items)) (sym before) (shown_from items [] first_wave refl refl)
 
 -- ---- two lists
 
-pub same_rises : (a b : List Item) → length_of a < 2 ^ 64 → length_of b < 2 ^ 64 → wave_text a ≡ wave_text b → rises_of 0 a ≡ rises_of 0 b
-same_rises a b p q e = sym (rises_seen a p) ∙ ap (λ t. (view_of t).rises) e ∙ rises_seen b q
+pub same_clocks : (a b : List Item) → length_of a < 2 ^ 64 → length_of b < 2 ^ 64 → wave_text a ≡ wave_text b →
+    clocks_of 0 a ≡ clocks_of 0 b
+same_clocks a b p q e = sym (clocks_seen a p) ∙ ap (λ t. seen_clocks (view_of t)) e ∙ clocks_seen b q
 
 pub same_length : (a b : List Item) → length_of a < 2 ^ 64 → length_of b < 2 ^ 64 → wave_text a ≡ wave_text b → length_of a ≡ length_of b
 same_length a b p q e = sym (time_seen a p) ∙ ap (λ t. (view_of t).time) e ∙ time_seen b q

@@ -31,14 +31,19 @@ number_is [] w e = e
 number_is (Clocked digit ∷ items) w e = number_is items (after_item w (Clocked digit)) refl
 number_is (Waited usec ∷ items) w e = number_is items (after_item w (Waited usec)) e
 
--- the state in which the controllers are after clocks, if it is one
-abbrev pub settled_after : List Item → Option Tap
-settled_after items = settled_state (states_led all_states (tms_values items))
+-- the state in which the controllers are after clocks with these values, if it is one
+abbrev pub known_after : List Bool → Option Tap
+known_after values = settled_state (states_led all_states values)
 
-pub shown_is : (items : List Item) → shown_after items ≡ shown_number (settled_after items)
+pub shown_is : (items : List Item) → shown_after items ≡ shown_number (known_after (tms_values items))
 shown_is items =
     number_is items first_wave refl
     ∙ ap (λ states. shown_number (settled_state states)) (states_are items first_wave)
+
+pub led_once : (states : List Tap) (values : List Bool) (tms : Bool) →
+    states_led states (values ++ tms ∷ []) ≡ states_after (states_led states values) tms
+led_once states [] tms = refl
+led_once states (first ∷ values) tms = led_once (states_after states first) values tms
 
 led_on : (tms : Bool) (values : List Bool) (states : List Tap) →
     map (λ from. walk from values) (states_after states tms) ≡ map (λ from. walk from (tms ∷ values)) states
@@ -104,32 +109,47 @@ is_some : (known : Option Tap) (tap : Tap) → shown_number known ≡ tap_number
 is_some (Some state) tap e = ap Some (tap_number-injective state tap e)
 is_some None tap e = absurd (no_number tap e)
 
--- where a controller is after clocks, by its state before them
-abbrev led : List Item → Tap → Tap
-led items from = walk from (tms_values items)
+-- where clocks with these values lead from a state
+abbrev led : List Bool → Tap → Tap
+led values from = walk from values
 
-settled_is : (items : List Item) → settled_after items ≡ one_value (led items)
-settled_is items = ap settled_state (led_is (tms_values items) all_states)
+known_is : (values : List Bool) → known_after values ≡ one_value (led values)
+known_is values = ap settled_state (led_is values all_states)
+
+pub number_exactly : (values : List Bool) (tap : Tap) →
+    (shown_number (known_after values) ≡ tap_number tap) ↔ LeadFromEach values tap
+number_exactly values tap = (
+  (λ e. always (led values) tap (sym (known_is values) ∙ is_some (known_after values) tap e)),
+  (λ h. ap shown_number (known_is values ∙ always_one (led values) tap h)),
+)
+
+unknown_else : (values : List Bool) (known : Option Tap) → shown_number (known_after values) ≡ shown_number known →
+    ((tap : Tap) → LeadFromEach values tap → ⊥) → shown_number (known_after values) ≡ 16
+unknown_else values (Some tap) e none = absurd (none tap ((number_exactly values tap).0 e))
+unknown_else values None e none = e
+
+pub number_unknown : (values : List Bool) →
+    (shown_number (known_after values) ≡ 16) ↔ ((tap : Tap) → LeadFromEach values tap → ⊥)
+number_unknown values = (
+  (λ e tap h. no_number tap (sym e ∙ (number_exactly values tap).1 h)),
+  unknown_else values (known_after values) refl,
+)
 
 pub shown_exactly : (items : List Item) (tap : Tap) →
     (shown_after items ≡ tap_number tap) ↔ LeadFromEach (tms_values items) tap
 shown_exactly items tap =
-    let known = is_some (settled_after items) tap in (
-      (λ e. always (led items) tap (sym (settled_is items) ∙ known (sym (shown_is items) ∙ e))),
-      (λ h. shown_is items ∙ ap shown_number (settled_is items ∙ always_one (led items) tap h)),
+    let exactly = number_exactly (tms_values items) tap in (
+      (λ e. exactly.0 (sym (shown_is items) ∙ e)),
+      (λ h. shown_is items ∙ exactly.1 h),
     )
-
-unknown_else : (items : List Item) (known : Option Tap) → shown_after items ≡ shown_number known →
-    ((tap : Tap) → LeadFromEach (tms_values items) tap → ⊥) → shown_after items ≡ 16
-unknown_else items (Some tap) e none = absurd (none tap ((shown_exactly items tap).0 e))
-unknown_else items None e none = e
 
 pub unknown_exactly : (items : List Item) →
     (shown_after items ≡ 16) ↔ ((tap : Tap) → LeadFromEach (tms_values items) tap → ⊥)
-unknown_exactly items = (
-  (λ e tap h. no_number tap (sym e ∙ (shown_exactly items tap).1 h)),
-  unknown_else items (settled_after items) (shown_is items),
-)
+unknown_exactly items =
+    let exactly = number_unknown (tms_values items) in (
+      (λ e. exactly.0 (sym (shown_is items) ∙ e)),
+      (λ none. shown_is items ∙ exactly.1 none),
+    )
 
 -- ---- from a state that is shown on
 

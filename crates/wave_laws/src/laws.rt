@@ -1,6 +1,5 @@
 //! Laws of the definitions.
-ghost use Rattle.std.specs.Prelude.{◌≡◌, ◌<◌, ◌^◌, ◌↔◌, ◌++◌, ℕ, List, codes, map};
-ghost use Rattle.std.specs.Str.Parse.{digits_value};
+ghost use Rattle.std.specs.Prelude.{◌≡◌, ◌<◌, ◌^◌, ◌↔◌, ◌++◌, ℕ, List, [], codes, map};
 ghost use Rattle.tap_states.specs.declared.Tap.{Tap};
 ghost use Rattle.tap_states.specs.declared.Tap.TheVariants.{Reset, Idle, DrSelect, DrShift};
 ghost use Rattle.tap_states.specs.Tap.{tap_number};
@@ -8,7 +7,7 @@ ghost use Rattle.tap_states.specs.Path.{walk};
 ghost use Rattle.wave_tool.specs.Items.{Item, Clocked};
 ghost use Rattle.wave_tool.specs.Waves.{wave_text};
 ghost use Rattle.wave_laws.specs.States.{tms_values, shown_after, LeadFromEach, LeadsFromReset};
-ghost use Rattle.wave_laws.specs.Readers.{view_of, state_levels, rises_of, length_of};
+ghost use Rattle.wave_laws.specs.Readers.{view_of, seen_clocks, states_before, state_levels, IsShown, AreShown, clocks_of, length_of};
 
 /// A state is shown exactly if the clocks lead to it from each of the sixteen states. If there is no such state, it is
 /// unknown, which is shown by 16.
@@ -44,25 +43,23 @@ pub fn examples_of_shown_states()
 {}
 
 /// A reader of the dump sees TCK rise for each clock, at its time and with its TMS, TDI and TDO, and for no other, and
-/// how long all takes. At the end the four wires of the state spell the number of a state in binary digits, exactly if
-/// the clocks lead to it from each of the sixteen; else each of them is unknown.
+/// how long all takes. When TCK rises for a clock, and at the end, the four wires of the state show in binary digits
+/// the state to which the earlier clocks lead from each of the sixteen, and are unknown if there is none.
 pub fn a_reader_sees_the_clocks()
-    ensures rises { (items : List Item) → length_of items < 2 ^ 64 →
-        (view_of (wave_text items)).rises ≡ rises_of 0 items }
+    ensures clocks { (items : List Item) → length_of items < 2 ^ 64 →
+        seen_clocks (view_of (wave_text items)) ≡ clocks_of 0 items }
     ensures time { (items : List Item) → length_of items < 2 ^ 64 →
         (view_of (wave_text items)).time ≡ length_of items }
-    ensures state { (items : List Item) (tap : Tap) → length_of items < 2 ^ 64 →
-        (digits_value 2 (state_levels (view_of (wave_text items))) ≡ tap_number tap) ↔
-        LeadFromEach (tms_values items) tap }
-    ensures unknown { (items : List Item) → length_of items < 2 ^ 64 →
-        (state_levels (view_of (wave_text items)) ≡ codes "xxxx") ↔
-        ((tap : Tap) → LeadFromEach (tms_values items) tap → ⊥) }
+    ensures before { (items : List Item) → length_of items < 2 ^ 64 →
+        AreShown [] (tms_values items) (states_before (view_of (wave_text items))) }
+    ensures end { (items : List Item) → length_of items < 2 ^ 64 →
+        IsShown (state_levels (view_of (wave_text items))) (tms_values items) }
 {}
 
 /// Two lists of clocks and waits with one dump have the same clocks at the same times, and take as long.
 pub fn a_dump_tells_its_clocks_and_waits()
     ensures clocks { (a b : List Item) → length_of a < 2 ^ 64 → length_of b < 2 ^ 64 → wave_text a ≡ wave_text b →
-        rises_of 0 a ≡ rises_of 0 b }
+        clocks_of 0 a ≡ clocks_of 0 b }
     ensures time { (a b : List Item) → length_of a < 2 ^ 64 → length_of b < 2 ^ 64 → wave_text a ≡ wave_text b →
         length_of a ≡ length_of b }
 {}
