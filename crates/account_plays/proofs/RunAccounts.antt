@@ -232,7 +232,7 @@ module _ {C K : Type 0} (cable : CableOf C) (sink : SinkOf K) (code : CodeLists)
             ap (λ (m : ℕ). all m (whole_chain a.events more)) (next_count i n) ∙ goes_then more n
             ∙ ap (λ (v : Went). after (p.events ++ a.events) (goes_on (led_on v u (chain_of cable base to last more)) s (before a.events more) (run_of code n))) is;
         are = λ more. are_next a.events more a.events (own_events more);
-        sums = λ e. sums_both runs new_runs last_runs p.events a.events (p.sums e) a.sums;
+        sums = λ e. sums_both runs new_runs last_runs p.events a.events (p.sums a.sums.was_none_lost) a.sums;
       }
 
       -- and the run is over
@@ -264,7 +264,7 @@ module _ {C K : Type 0} (cable : CableOf C) (sink : SinkOf K) (code : CodeLists)
             ended = λ more.
                 ap (λ (r : Run). ending_of r.outcome) (last_run more)
                 ∙ over_ends code ending m s u (before a.events more) (chain_of cable base to last more);
-            sums = λ e. sums_both runs new_runs last_runs p.events a.events (p.sums e) a.sums;
+            sums = λ e. sums_both runs new_runs last_runs p.events a.events (p.sums a.sums.was_none_lost) a.sums;
           }
 
   -- all turns are spent

@@ -13,6 +13,7 @@ use Rattle.stapl_meaning.specs.States.{Happened, with_events}
 use Rattle.stapl_meaning.specs.Texts.{events_text}
 use Rattle.stapl_code.specs.declared.raw.CodeLists.{CodeLists}
 use Rattle.machine_memory.specs.declared.memory.Workspace.{Workspace}
+use Rattle.machine_memory.specs.Acts.{state_of}
 use Rattle.machine_memory.specs.RunRooms.{HasRoom}
 use Rattle.stapl_instructions.specs.declared.control.Went.{Went}
 use Rattle.written_cable.specs.Papers.{Puts, PutsFront}
@@ -20,6 +21,9 @@ use Rattle.written_cable.specs.declared.paper.Paper.{Ghosts as PaperOf}
 use Rattle.written_cable.specs.declared.trouble.Trouble.{Trouble}
 use Rattle.written_cable.specs.Signals.{signals_of}
 use Rattle.run_cable.specs.KeptRuns.{Kept, Hears, begun}
+use Rattle.stapl_machine.specs.Turns.{rest_of, ticks_from, turn_at, ticks_at}
+use Rattle.account_plays.specs.declared.turns.Part.{Part}
+use Rattle.account_plays.specs.declared.turns.Part.TheVariants.{Prologue, Turn}
 use Rattle.account_plays.specs.declared.turns.Turned.{Turned}
 
 -- the chain over a cable with all controllers in a state, with TDO bits that are still to be heard
@@ -34,6 +38,15 @@ chain_heard cable base at old events more = chain_of cable base at old (tdos (cl
 pub record IsOpenCable {C : Type 0} (cable : CableOf C) (at : Tap) (now : C) : Type 0 where
   pub whole_cable : cable.breakage now ≡ whole
   pub in_step : WhereTold (cable.board now) (AllIn at)
+
+-- a part of a play of a code, and how many instructions it takes
+abbrev pub part_at : CodeLists → Part → List ℕ → Workspace → Chain → Happened
+part_at code Prologue chosen work = rest_of code 0 chosen work
+part_at code (Turn place) chosen work = turn_at code place (state_of chosen work)
+
+abbrev pub part_ticks : CodeLists → Part → List ℕ → Workspace → Chain → ℕ
+part_ticks code Prologue chosen work = ticks_from code 0 chosen work
+part_ticks code (Turn place) chosen work = ticks_at code place (state_of chosen work)
 
 -- a code can be played turn by turn in this workspace
 pub record CanPlayTurns (code : CodeLists) (work : Workspace) : Type 0 where

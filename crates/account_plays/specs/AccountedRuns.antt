@@ -70,7 +70,7 @@ module _ {C K : Type 0} (cable : CableOf C) (sink : SinkOf K) (code : CodeLists)
     pub goes : (more : List Bool) (n : ℕ) → all (i + n) (chain_heard cable base from old events more)
         ≡ after events (run_of code n place s (chain_of cable base at new more))
     pub are : (more : List Bool) → AreNextCodeTurns code table (λ n. all n (chain_heard cable base from old events more)) turns
-    pub sums : runs.lost ≡ false → SumsGoOn runs events new_runs
+    pub sums : new_runs.lost ≡ false → SumsGoOn runs events new_runs
 
   -- All turns of a run of at most so many were played, and it stands so; there is no ending where it met what no valid
   -- code meets.
@@ -83,7 +83,7 @@ module _ {C K : Type 0} (cable : CableOf C) (sink : SinkOf K) (code : CodeLists)
     pub whole : (more : List Bool) → (length turns ≡ most) ⊎ HasStopped (all (length turns) (chain_heard cable base from old events more))
     pub gives : (more : List Bool) → (all most (chain_heard cable base from old events more)).events ≡ events
     pub ended : (more : List Bool) → ending_of (all most (chain_heard cable base from old events more)).outcome ≡ ending
-    pub sums : runs.lost ≡ false → SumsGoOn runs events new_runs
+    pub sums : new_runs.lost ≡ false → SumsGoOn runs events new_runs
 
   -- A front was put of the text of the turns that the run has at the far end of the cable.
   pub record PlayedFront (new_out : Lines K) : Type 0 where

@@ -13,7 +13,7 @@ ghost use Rattle.account_plays.specs.AccountedTurns.{HasAccounted};
 
 use crate::failures::{AccountFailed, failed};
 use crate::run_lines::put_runs;
-use crate::turns::{Course, Turned, play_kept_turn};
+use crate::turns::{Course, Part, Turned, play_kept_part};
 use account_lines::TurnPlace;
 use base::Steps;
 use machine_memory::memory::Workspace;
@@ -51,7 +51,16 @@ pub fn account_turn<C: Cable, K: Sink, L: Ledger>(
     ensures open { IfOk result (λ t. IsOpenCable C.Cable t.tap cable.new) }
     ensures clocked { WasClocked C.made cable.old cable.new }
 {
-    match play_kept_turn(course, place, tap, work, cable, runs, out, steps) {
+    match play_kept_part(
+        course,
+        Part::Turn(place),
+        tap,
+        work,
+        cable,
+        runs,
+        out,
+        steps,
+    ) {
         Ok(turned) => {
             runs.close();
             if runs.is_lost() {

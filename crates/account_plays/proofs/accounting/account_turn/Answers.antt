@@ -9,7 +9,7 @@ use Rattle.account_plays.proofs.accounting.account_turn.Goals as goal
 
 pub returns-in-Ok-put_runs-clause-accounted : goal.returns-in-Ok-put_runs-clause-accounted
 returns-in-Ok-put_runs-clause-accounted g c =
-    let course = c.args.course.now in let k = c.in-Ok.ensures.kept in let new = c.play_kept_turn.new in
+    let course = c.args.course.now in let k = c.in-Ok.ensures.kept in let new = c.play_kept_part.new in
     accounted g.C.Cable g.K.Sink (lengths_of course.base) c.args.said c.args.tap c.in-Ok.turned.tap
     (turn_at course.code.now c.args.place (state_of course.chosen.now c.args.work.now)) c.args.cable.now new.cable c.args.runs.now new.runs c.close.new.self
     c.args.out.now new.out c.in-Ok.turned.went (state_of course.chosen.now new.work) c.in-Ok.ensures.turned k.same_paper k.whole_paper k.paper_kept
@@ -17,7 +17,7 @@ returns-in-Ok-put_runs-clause-accounted g c =
 
 pub returns-in-Err-put_runs-clause-accounted : goal.returns-in-Err-put_runs-clause-accounted
 returns-in-Err-put_runs-clause-accounted g c =
-    let course = c.args.course.now in let k = c.in-Ok.ensures.kept in let new = c.play_kept_turn.new in
+    let course = c.args.course.now in let k = c.in-Ok.ensures.kept in let new = c.play_kept_part.new in
     runs_torn g.C.Cable g.K.Sink (lengths_of course.base) c.args.said c.args.tap c.in-Ok.turned.tap
     (turn_at course.code.now c.args.place (state_of course.chosen.now c.args.work.now)) c.args.cable.now new.cable c.args.runs.now new.runs c.close.new.self
     c.args.out.now new.out c.in-Ok.turned.went (state_of course.chosen.now new.work) c.in-Ok.ensures.turned k.same_paper k.whole_paper k.paper_kept
@@ -25,7 +25,7 @@ returns-in-Err-put_runs-clause-accounted g c =
 
 pub returns-in-Err-clause-accounted : goal.returns-in-Err-clause-accounted
 returns-in-Err-clause-accounted g c =
-    let course = c.args.course.now in let k = c.in-Err.ensures.kept in let new = c.play_kept_turn.new in
+    let course = c.args.course.now in let k = c.in-Err.ensures.kept in let new = c.play_kept_part.new in
     rw c.failed.ensures.failure
     (turn_torn g.C.Cable g.K.Sink (lengths_of course.base) c.args.said c.args.tap c.args.tap
     (turn_at course.code.now c.args.place (state_of course.chosen.now c.args.work.now)) c.args.cable.now new.cable c.args.runs.now new.runs new.runs
