@@ -3,3 +3,4 @@ pub mod RunTextLemmas
 pub mod HeardTurns
 pub mod AccountLemmas
 pub mod RunAccounts
+pub mod WholeRuns

@@ -42,7 +42,7 @@ use Rattle.account_plays.proofs.AccountLemmas.{led_without}
 -- ---- lists
 
 -- what is heard of events is heard of their front first
-heard_both : {C : Type 0} (cable : CableOf C) (base : BaseLengths) (at : Tap) (old : C) (es fs : List Event) (more : List Bool) →
+pub heard_both : {C : Type 0} (cable : CableOf C) (base : BaseLengths) (at : Tap) (old : C) (es fs : List Event) (more : List Bool) →
     chain_heard cable base at old (es ++ fs) more ≡ chain_heard cable base at old es (tdos (clocks_in (signals_of fs)) ++ more)
 heard_both cable base at old es fs more =
     let tdo : Clock → Bool = λ (k : Clock). k.tdo in let ks : List Clock = clocks_in (signals_of es) in let js : List Clock = clocks_in (signals_of fs) in
@@ -58,24 +58,24 @@ are_more code table [] runs t all next = (next, tt)
 are_more code table (x ∷ ts) runs t all next = (all.0, are_more code table ts (λ n. runs (suc n)) t all.1 next)
 
 -- a run of one turn has the events of that turn
-one_turn : (code : CodeLists) (h : Happened) (s : State) (k : Chain) → (goes_on h s k (run_of code 0)).events ≡ happened_events h
+pub one_turn : (code : CodeLists) (h : Happened) (s : State) (k : Chain) → (goes_on h s k (run_of code 0)).events ≡ happened_events h
 one_turn code (Led events place u l) s k = append-nil events
 one_turn code (Finished events ending u l) s k = refl
 one_turn code (Broke events f u l) s k = refl
 one_turn code (Lacks events) s k = refl
 
 -- what a turn leads to ends a run so
-over_ends : (code : CodeLists) (ending : Option Ending) (n : ℕ) (s u : State) (k l : Chain) →
+pub over_ends : (code : CodeLists) (ending : Option Ending) (n : ℕ) (s u : State) (k l : Chain) →
     ending_of (goes_on (led_on (went.Over ending) u l) s k (run_of code n)).outcome ≡ ending
 over_ends code (Some ending) n s u k l = refl
 over_ends code None n s u k l = refl
 
-over_without : (code : CodeLists) (ending : Option Ending) (n : ℕ) (s u : State) (k l : Chain) →
+pub over_without : (code : CodeLists) (ending : Option Ending) (n : ℕ) (s u : State) (k l : Chain) →
     (goes_on (led_on (went.Over ending) u l) s k (run_of code n)).events ≡ []
 over_without code (Some ending) n s u k l = refl
 over_without code None n s u k l = refl
 
-over_stops : (code : CodeLists) (ending : Option Ending) (n : ℕ) (s u : State) (k l : Chain) →
+pub over_stops : (code : CodeLists) (ending : Option Ending) (n : ℕ) (s u : State) (k l : Chain) →
     HasStopped (goes_on (led_on (went.Over ending) u l) s k (run_of code n))
 over_stops code (Some ending) n s u k l = λ at e. absurd cc
 over_stops code None n s u k l = λ at e. absurd cc
@@ -86,7 +86,7 @@ plus_none n = omega arith
 next_count : (i n : ℕ) → (i + 1) + n ≡ i + suc n
 next_count i n = omega arith
 
-sums_both : (old mid new : Kept) (es fs : List Event) → SumsGoOn old es mid → SumsGoOn mid fs new → SumsGoOn old (es ++ fs) new
+pub sums_both : (old mid new : Kept) (es fs : List Event) → SumsGoOn old es mid → SumsGoOn mid fs new → SumsGoOn old (es ++ fs) new
 sums_both old mid new es fs a b = record {
   was_none_lost = a.was_none_lost;
   none_lost = b.none_lost;

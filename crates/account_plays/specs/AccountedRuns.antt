@@ -12,6 +12,7 @@ use Rattle.stapl_meaning.specs.declared.events.Ending.{Ending}
 use Rattle.stapl_meaning.specs.Deeds.{Chain}
 use Rattle.stapl_meaning.specs.States.{State}
 use Rattle.stapl_meaning.specs.Plays.{Run, Going, after, ending_of}
+use Rattle.stapl_meaning.specs.Texts.{events_text}
 use Rattle.stapl_code.specs.declared.raw.CodeLists.{CodeLists}
 use Rattle.stapl_machine.specs.Turns.{piece_of}
 use Rattle.stapl_machine.specs.Runs.{run_of}
@@ -98,3 +99,34 @@ module _ {C K : Type 0} (cable : CableOf C) (sink : SinkOf K) (code : CodeLists)
   HasPlayedTurns most new new_runs new_out (Ok ending) = PlayedTurns most ending new new_runs new_out
   HasPlayedTurns most new new_runs new_out (Err Write) = PlayedFront new_out
   HasPlayedTurns most new new_runs new_out (Err Lost) = Unit {0}
+
+module _ {C K : Type 0} (cable : CableOf C) (sink : SinkOf K) (code : CodeLists) (table : List TurnPlace) (base : BaseLengths)
+    (all : ℕ → Chain → Run) (from : Tap) (old : C) (runs : Kept) (out : Lines K) where
+  -- A whole run of at most so many turns was played: what comes before its turns, and then these.
+  pub record PlayedRun (most : ℕ) (ending : Option Ending) (new : C) (new_runs : Kept) (new_out : Lines K) : Type 0 where
+    pub events : List Event
+    pub first : List Event
+    pub turns : List MadeTurn
+    pub made : cable.made old (signals_of events) new
+    pub put : Puts sink out (events_text false [] first ++ turns_text table base turns) new_out
+    pub first_is : (more : List Bool) → (all 0 (chain_heard cable base from old events more)).events ≡ first
+    pub are : (more : List Bool) → AreNextCodeTurns code table (λ n. all n (chain_heard cable base from old events more)) turns
+    pub whole : (more : List Bool) → (length turns ≡ most) ⊎ HasStopped (all (length turns) (chain_heard cable base from old events more))
+    pub gives : (more : List Bool) → (all most (chain_heard cable base from old events more)).events ≡ events
+    pub ended : (more : List Bool) → ending_of (all most (chain_heard cable base from old events more)).outcome ≡ ending
+    pub sums : new_runs.lost ≡ false → SumsGoOn runs events new_runs
+
+  -- A front was put of the text that comes before its turns and of that of turns that it has at the far end of the cable.
+  pub record PlayedRunFront (new_out : Lines K) : Type 0 where
+    pub events : List Event
+    pub turns : List Bool → List MadeTurn
+    pub are : (more : List Bool) →
+        AreNextCodeTurns code table (λ n. all n (chain_heard cable base from old events more)) (turns more)
+    pub put : (more : List Bool) → PutsFront sink out
+        (events_text false [] (all 0 (chain_heard cable base from old events more)).events ++ turns_text table base (turns more)) new_out
+
+  -- what a call does that plays a whole run so, by its result; of a loss nothing is said
+  abbrev pub HasPlayedRun : ℕ → C → Kept → Lines K → Result (Option Ending) AccountFailed → Type 0
+  HasPlayedRun most new new_runs new_out (Ok ending) = PlayedRun most ending new new_runs new_out
+  HasPlayedRun most new new_runs new_out (Err Write) = PlayedRunFront new_out
+  HasPlayedRun most new new_runs new_out (Err Lost) = Unit {0}

@@ -3,11 +3,13 @@
 
 mod accounting;
 mod failures;
+mod playing;
 mod run_lines;
 mod running;
 mod turns;
 
 pub use accounting::account_turn;
 pub use failures::AccountFailed;
+pub use playing::account_run;
 pub use running::account_turns;
 pub use turns::{Course, Turned};
