@@ -33,10 +33,10 @@ said_in table piece = option_map_or (λ said. said) (slice_get table piece) (rec
 abbrev pub turns_text : List TurnPlace → BaseLengths → List MadeTurn → List ℕ
 turns_text table base turns = flat_map (λ (t : MadeTurn). turn_text (said_in table t.place) base t.from t.events) turns
 
--- this is told of the turn at a place of a code
+-- This is told of the turn at a place of a code: of its piece, which a table counts from 0 and a code from 1.
 pub record HasTurnAt (code : CodeLists) (table : List TurnPlace) (place : ℕ) (said : TurnPlace) : Type 0 where
   pub piece : ℕ
-  pub at_piece : piece_of (slice_get code.instrs place) ≡ Some piece
+  pub at_piece : piece_of (slice_get code.instrs place) ≡ Some (piece + 1)
   pub in_table : slice_get table piece ≡ Some said
 
 -- The shorter run of a code goes on at a Turn of the piece of the turn, with the controllers in its first state, and the
@@ -44,7 +44,7 @@ pub record HasTurnAt (code : CodeLists) (table : List TurnPlace) (place : ℕ) (
 pub record IsNextCodeTurn (code : CodeLists) (table : List TurnPlace) (shorter longer : Run) (t : MadeTurn) : Type 0 where
   pub at : ℕ
   pub goes : shorter.outcome ≡ Going at
-  pub piece : piece_of (slice_get code.instrs at) ≡ Some t.place
+  pub piece : piece_of (slice_get code.instrs at) ≡ Some (t.place + 1)
   pub scans : t.scans ≡ (said_in table t.place).scans
   pub from : shorter.chain.tap ≡ t.from
   pub events : longer.events ≡ shorter.events ++ t.events

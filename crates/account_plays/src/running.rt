@@ -24,12 +24,14 @@ use std::sync::ledger::Ledger;
 use tap_states::Tap;
 use tool_io::{Lines, Sink};
 
-// What is told of the piece of the turn at a place of a code, if there is a turn and it is told.
+// What is told of the piece of the turn at a place of a code, if there is a turn and it is told. A code counts pieces from
+// 1, and the table from 0.
 fn said_at(course: &Course<'_>, place: u32) -> Option<TurnPlace>
     ensures { IfSome result (HasTurnAt course.now.code.now course.now.table.now place) }
 {
     let piece = piece_at(course.code.instrs.as_slice(), place as usize)?;
-    course.table.get(piece as usize).copied()
+    let index = piece.checked_sub(1)?;
+    course.table.get(index as usize).copied()
 }
 
 /// Plays at most so many turns of a code, from a place and a state of the controllers on and over a cable that never
