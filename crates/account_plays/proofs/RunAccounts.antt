@@ -254,6 +254,7 @@ module _ {C K : Type 0} (cable : CableOf C) (sink : SinkOf K) (code : CodeLists)
             made = made_both;
             put = put_both;
             are = λ more. are_next a.events more a.events (own_events more);
+            few = omega (arith, one_more, h);
             whole = λ more.
                 inr (subst HasStopped (sym (ap (λ (n : ℕ). all n (whole_chain a.events more)) one_more ∙ over more 0))
                 (over_stops code ending 0 s u (before a.events more) (chain_of cable base to last more)));
@@ -281,6 +282,7 @@ module _ {C K : Type 0} (cable : CableOf C) (sink : SinkOf K) (code : CodeLists)
         made = p.made;
         put = p.put;
         are = p.are;
+        few = omega (arith, p.count, e);
         whole = λ more. inl (p.count ∙ e);
         gives = λ more. ap (λ (r : Run). r.events) (last_run more) ∙ append-nil p.events;
         ended = λ more. ap (λ (r : Run). ending_of r.outcome) (last_run more);

@@ -1,5 +1,5 @@
 -- On a whole run of a code, by its prologue and its turns.
-use Rattle.std.proofs.Common.{◌≡◌, ◌⊎◌, inl, inr, ℕ, suc, Bool, false, List, [], ◌∷◌, ◌++◌, length, Option, Some, None, Err, refl, sym, ap, subst, ◌∙◌, append_assoc}
+use Rattle.std.proofs.Common.{◌≡◌, ◌⊎◌, inl, inr, ℕ, suc, Bool, false, List, [], ◌∷◌, ◌++◌, length, Option, Some, None, Err, refl, sym, ap, subst, ◌∙◌, append_assoc, arith, ◌≤◌}
 use Rattle.std.proofs.lemmas.List.{append-nil}
 use Rattle.tap_states.specs.declared.Tap.{Tap}
 use Rattle.tap_states.specs.declared.Tap.TheVariants.{Reset}
@@ -165,6 +165,7 @@ module _ {C K : Type 0} (cable : CableOf C) (sink : SinkOf K) (code : CodeLists)
             put = puts_same (sym (append-nil (events_text false [] first))) first_put;
             first_is = λ more. events more 0 ∙ append-nil first;
             are = λ more. tt;
+            few = omega arith;
             whole = λ more. inr (subst HasStopped (sym (run more 0)) (over_stops code ending 0 first_state v (before (first ++ []) more) (beyond [] more)));
             gives = λ more. events more most;
             ended = λ more. ap (λ (r : Run). ending_of r.outcome) (run more most)
@@ -196,6 +197,7 @@ module _ {C K : Type 0} (cable : CableOf C) (sink : SinkOf K) (code : CodeLists)
           first_is = λ more. first_events p.events more;
           are = λ more. are_after code table first (λ n. run_of code n begin v (beyond p.events more)) (λ n. all n (before (first ++ p.events) more)) p.turns
               (on_is p.events more) (p.are more);
+          few = p.few;
           whole = λ more. (elim (p.whole more) [
             | inl e ↦ inl e
             | inr stops ↦ inr (λ at e. stops at (sym (ap (λ (r : Run). r.outcome) (on_is p.events more (length p.turns))) ∙ e))

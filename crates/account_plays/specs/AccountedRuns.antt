@@ -1,5 +1,5 @@
 -- The turns of a run of a code, one after another, with their accounts.
-use Rattle.std.specs.Prelude.{◌≡◌, ◌⊎◌, ℕ, suc, ◌+◌, Bool, false, List, [], ◌∷◌, ◌++◌, length, flat_map, slice_get, Option, Some, Result, Ok, Err}
+use Rattle.std.specs.Prelude.{◌≡◌, ◌≤◌, ◌⊎◌, ℕ, suc, ◌+◌, Bool, false, List, [], ◌∷◌, ◌++◌, length, flat_map, slice_get, Option, Some, Result, Ok, Err}
 use Rattle.std.specs.Option.{option_map_or}
 use Rattle.tap_states.specs.declared.Tap.{Tap}
 use Rattle.tool_io.specs.declared.lines.Lines.{Lines}
@@ -81,6 +81,7 @@ module _ {C K : Type 0} (cable : CableOf C) (sink : SinkOf K) (code : CodeLists)
     pub made : cable.made old (signals_of events) new
     pub put : Puts sink out (turns_text table base turns) new_out
     pub are : (more : List Bool) → AreNextCodeTurns code table (λ n. all n (chain_heard cable base from old events more)) turns
+    pub few : length turns ≤ most
     pub whole : (more : List Bool) → (length turns ≡ most) ⊎ HasStopped (all (length turns) (chain_heard cable base from old events more))
     pub gives : (more : List Bool) → (all most (chain_heard cable base from old events more)).events ≡ events
     pub ended : (more : List Bool) → ending_of (all most (chain_heard cable base from old events more)).outcome ≡ ending
@@ -111,6 +112,7 @@ module _ {C K : Type 0} (cable : CableOf C) (sink : SinkOf K) (code : CodeLists)
     pub put : Puts sink out (events_text false [] first ++ turns_text table base turns) new_out
     pub first_is : (more : List Bool) → (all 0 (chain_heard cable base from old events more)).events ≡ first
     pub are : (more : List Bool) → AreNextCodeTurns code table (λ n. all n (chain_heard cable base from old events more)) turns
+    pub few : length turns ≤ most
     pub whole : (more : List Bool) → (length turns ≡ most) ⊎ HasStopped (all (length turns) (chain_heard cable base from old events more))
     pub gives : (more : List Bool) → (all most (chain_heard cable base from old events more)).events ≡ events
     pub ended : (more : List Bool) → ending_of (all most (chain_heard cable base from old events more)).outcome ≡ ending
