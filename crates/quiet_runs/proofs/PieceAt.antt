@@ -50,7 +50,7 @@ module _ (program : Played) (short : length (program_code program) < 2 ^ 32) whe
       let never : None ≡ Some piece = sym (ap piece_of none) ∙ e in
       absurd cc
 
-  start_piece : (i piece : ℕ) → piece_of (slice_get (program_code program) (start_of program i)) ≡ Some piece → piece ≡ i + 1
+  pub start_piece : (i piece : ℕ) → piece_of (slice_get (program_code program) (start_of program i)) ≡ Some piece → piece ≡ i + 1
   start_piece i piece e = by (slice_get program.pieces i) refl
     where
       inner : (st : StmtTree) → slice_get program.pieces i ≡ Some st → is_outer st.body ≡ false → piece ≡ i + 1
