@@ -1,0 +1,6 @@
+//! Of each piece of a program what an account of a play says of its turns.
+#![tactic(auto)]
+
+mod table;
+
+pub use table::turn_table;
