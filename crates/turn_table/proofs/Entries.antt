@@ -7,7 +7,7 @@ use Rattle.stapl_lexer.specs.declared.piece.Piece.{Piece}
 use Rattle.stapl_lexer.specs.Pieces.{IsCut}
 use Rattle.stapl_lexer.proofs.PieceLemmas.{cut_one_way}
 use Rattle.stapl_syntax.specs.declared.statement.Stmt.{Stmt}
-use Rattle.stapl_syntax.specs.Trees.{body_tree, stmt_tree, trees}
+use Rattle.stapl_syntax.specs.Trees.{StmtTree, body_tree, stmt_tree, trees}
 use Rattle.stapl_syntax.specs.Programs.{piece_limit, line_of_index, IsProgram}
 use Rattle.stapl_meaning.specs.Scopes.{as_played}
 use Rattle.stapl_meaning.proofs.Sound.{sound}
@@ -70,15 +70,14 @@ few_statements text statements given e program =
     omega (arith, length-map statements stmt_tree, few, ap length e)
 
 -- the whole table
-all_entries : (text : List ℕ) (pieces : List Piece) (statements : List Stmt) (table : List TurnPlace) (n : ℕ) →
-    IsCut text pieces → n ≡ length statements →
-    Lists (turn_place text pieces (as_played (trees statements))) n table → IsTurnTable text (trees statements) table
-all_entries text pieces statements table n cut end all = record {
-  count = all.count ∙ end ∙ sym (length-map statements stmt_tree);
+pub all_entries : (text : List ℕ) (pieces : List Piece) (program : List StmtTree) (table : List TurnPlace) (n : ℕ) →
+    IsCut text pieces → n ≡ length program → Lists (turn_place text pieces (as_played program)) n table →
+    IsTurnTable text program table
+all_entries text pieces program table n cut end all = record {
+  count = all.count ∙ end;
   each = λ other i own below.
-      all.each i (omega (arith, below, end, length-map statements stmt_tree))
-      ∙ ap (λ (ps : List Piece). Some (turn_place text ps (as_played (trees statements)) i))
-      (cut_one_way text pieces other cut own);
+      all.each i (omega (arith, below, end))
+      ∙ ap (λ (ps : List Piece). Some (turn_place text ps (as_played program) i)) (cut_one_way text pieces other cut own);
 }
 
 pub whole_table : (text own : List ℕ) (pieces : List Piece) (statements given : List Stmt) (table : List TurnPlace) (n : ℕ) →
@@ -86,4 +85,5 @@ pub whole_table : (text own : List ℕ) (pieces : List Piece) (statements given 
     Lists (turn_place own pieces (as_played (trees given))) n table → IsTurnTable text (trees statements) table
 whole_table text own pieces statements given table n e f cut end all =
     subst (λ v. IsTurnTable v (trees statements) table) e
-    (subst (λ v. IsTurnTable own (trees v) table) f (all_entries own pieces given table n cut end all))
+    (subst (λ v. IsTurnTable own (trees v) table) f
+    (all_entries own pieces (trees given) table n cut (end ∙ sym (length-map given stmt_tree)) all))
