@@ -154,7 +154,9 @@ module _ {C K : Type 0} (cable : CableOf C) (sink : SinkOf K) (code : CodeLists)
           at = place;
           goes = ap (λ (r : Run). r.outcome) here_run;
           piece = here.at_piece;
-          scans = ap (λ (x : TurnPlace). x.scans) (sym told);
+          said = said;
+          in_table = here.in_table;
+          scans = refl;
           from = ap (λ (r : Run). r.chain.tap) here_run;
           events = ap (λ (r : Run). r.events) next_run
               ∙ ap (λ (xs : List Event). p.events ++ xs) (one_turn code (turn_at code place s (before es more)) s (before es more) ∙ e)

@@ -39,13 +39,15 @@ pub record HasTurnAt (code : CodeLists) (table : List TurnPlace) (place : ℕ) (
   pub at_piece : piece_of (slice_get code.instrs place) ≡ Some (piece + 1)
   pub in_table : slice_get table piece ≡ Some said
 
--- The shorter run of a code goes on at a Turn of the piece of the turn, with the controllers in its first state, and the
--- longer one has the events of the turn after those of the shorter one.
+-- The shorter run of a code goes on at a Turn of the piece of the turn, which a table tells, with the controllers in its
+-- first state, and the longer one has the events of the turn after those of the shorter one.
 pub record IsNextCodeTurn (code : CodeLists) (table : List TurnPlace) (shorter longer : Run) (t : MadeTurn) : Type 0 where
   pub at : ℕ
   pub goes : shorter.outcome ≡ Going at
   pub piece : piece_of (slice_get code.instrs at) ≡ Some (t.place + 1)
-  pub scans : t.scans ≡ (said_in table t.place).scans
+  pub said : TurnPlace
+  pub in_table : slice_get table t.place ≡ Some said
+  pub scans : t.scans ≡ said.scans
   pub from : shorter.chain.tap ≡ t.from
   pub events : longer.events ≡ shorter.events ++ t.events
 
