@@ -1,1 +1,2 @@
 pub mod SourceTurns
+pub mod SourceTexts

@@ -1,5 +1,6 @@
 -- The turns of a code, as those of its program.
-use Rattle.std.proofs.Common.{◌≡◌, ◌≤◌, ◌<◌, ◌^◌, ◌+◌, ◌⊎◌, inl, inr, ℕ, zero, suc, List, [], ◌∷◌, ◌++◌, length, refl, sym, ap, ap₂, subst, ◌∙◌, arith, Some}
+use Rattle.std.proofs.Common.{◌≡◌, ◌≤◌, ◌<◌, ◌^◌, ◌+◌, ◌⊎◌, inl, inr, ℕ, zero, suc, List, [], ◌∷◌, ◌++◌, length, refl, sym, ap, ap₂, subst, ◌∙◌, arith, Some, Option, false}
+use Rattle.std.specs.Option.{option_map_or}
 use Rattle.std.specs.Prelude.{slice_get}
 use Rattle.std.proofs.lemmas.List.{append-nil, append_cancel_left}
 use Rattle.tap_states.specs.declared.Tap.{Tap}
@@ -57,7 +58,9 @@ module _ (program : Played) (code : CodeLists) (table : List TurnPlace) (is : Is
       let goes : Going next.at ≡ Going (start_of program i) = sym next.goes ∙ ap (λ (r : Run). r.outcome) (e 0) in
       let at : next.at ≡ start_of program i = cc in
       let place : t.place ≡ i = piece_is i next.at t.place at next.piece in
-      let scan : t.scans ≡ scans_at program i = next.scans ∙ scans t.place ∙ ap (scans_at program) place in
+      let told : said_in table t.place ≡ next.said =
+      ap (λ (o : Option TurnPlace). option_map_or (λ said. said) o (record { piece = t.place; line = 0; scans = false })) next.in_table in
+      let scan : t.scans ≡ scans_at program i = next.scans ∙ ap (λ (x : TurnPlace). x.scans) (sym told) ∙ scans t.place ∙ ap (scans_at program) place in
       let from : t.from ≡ k.tap = sym next.from ∙ ap (λ (r : Run). r.chain.tap) (e 0) in
       let events : t.events ≡ happened_events h =
       append_cancel_left seen t.events (happened_events h)

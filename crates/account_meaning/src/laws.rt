@@ -1,16 +1,24 @@
 //! Laws of the definitions.
-ghost use Rattle.std.specs.Prelude.{◌≡◌, ◌≤◌, ◌<◌, ◌^◌, ◌⊎◌, ℕ, List, length};
+ghost use Rattle.std.specs.Prelude.{◌≡◌, ◌≤◌, ◌<◌, ◌^◌, ◌⊎◌, ℕ, List, flat_map, length};
+ghost use Rattle.stapl_lexer.specs.declared.piece.Piece.{Piece};
+ghost use Rattle.stapl_lexer.specs.Pieces.{IsCut};
+ghost use Rattle.stapl_syntax.specs.Trees.{StmtTree};
+ghost use Rattle.stapl_syntax.specs.Programs.{IsProgram};
 ghost use Rattle.dev_card.specs.Padding.{BaseLengths};
 ghost use Rattle.dev_card.specs.FarEnds.{FarEnd};
-ghost use Rattle.stapl_meaning.specs.Scopes.{Played};
+ghost use Rattle.stapl_meaning.specs.Scopes.{Played, as_played};
 ghost use Rattle.stapl_meaning.specs.Plays.{chain_reset};
 ghost use Rattle.stapl_code.specs.declared.raw.CodeLists.{CodeLists};
 ghost use Rattle.stapl_codegen.specs.Generated.{IsCodeOf};
 ghost use Rattle.stapl_machine.specs.Machines.{play_of};
 ghost use Rattle.scan_accounts.specs.MadeTurns.{MadeTurn, made_play};
+ghost use Rattle.scan_accounts.specs.AccountTexts.{turn_lines};
 ghost use Rattle.account_lines.specs.declared.lines.TurnPlace.{TurnPlace};
-ghost use Rattle.account_plays.specs.AccountedRuns.{AreNextCodeTurns, HasStopped};
+ghost use Rattle.account_plays.specs.AccountedRuns.{turns_text, AreNextCodeTurns, HasStopped};
+ghost use Rattle.turn_table.specs.Tables.{IsTurnTable};
 ghost use Rattle.account_meaning.specs.Tables.{TellsScans};
+
+use scan_accounts::laws::a_turn_has_runs_or_lines;
 
 /// The turns of the plays of the code of a program, one after another and all of them, are those of the play of the
 /// program, as it was made: their pieces, whether they scan, the states before them, and their events.
@@ -21,3 +29,18 @@ pub fn a_code_has_the_turns_of_its_program()
         (length turns ≡ n) ⊎ HasStopped (play_of code chosen (length turns) (chain_reset base far)) →
         turns ≡ (made_play program chosen n base far).turns }
 {}
+
+/// With the table of a program, the text of the turns of its code is that of the turns of its play, as an account of the
+/// play says it.
+pub fn the_text_of_a_code_is_that_of_its_program()
+    ensures { (text : List ℕ) (program : List StmtTree) (pieces : List Piece) (code : CodeLists) (table : List TurnPlace)
+        (chosen : List ℕ) (n : ℕ) (base : BaseLengths) (far : FarEnd) (turns : List MadeTurn) → IsProgram text program →
+        IsCut text pieces → IsTurnTable text program table → IsCodeOf (as_played program) code →
+        length code.instrs < 2 ^ 32 →
+        AreNextCodeTurns code table (λ m. play_of code chosen m (chain_reset base far)) turns → length turns ≤ n →
+        (length turns ≡ n) ⊎ HasStopped (play_of code chosen (length turns) (chain_reset base far)) →
+        turns_text table base turns ≡ flat_map (turn_lines (record { text = text; pieces = pieces }) base)
+        (made_play (as_played program) chosen n base far).turns }
+{
+    a_turn_has_runs_or_lines();
+}
