@@ -1,5 +1,7 @@
 -- On the account of a turn.
-use Rattle.std.proofs.Common.{◌≡◌, false, Bool, List, [], ◌++◌, Option, Some, None, refl, sym, ap, subst, ◌∙◌}
+use Rattle.std.specs.Prelude.{count_by}
+use Rattle.std.specs.Bool.{beq}
+use Rattle.std.proofs.Common.{◌≡◌, ◌+◌, ℕ, true, ap₂, arith, false, Bool, List, [], ◌++◌, Option, Some, None, refl, sym, ap, subst, ◌∙◌}
 use Rattle.std.proofs.lemmas.List.{append-nil}
 use Rattle.tap_states.specs.declared.Tap.{Tap}
 use Rattle.tool_io.specs.declared.lines.Lines.{Lines}
@@ -23,18 +25,40 @@ use Rattle.scan_accounts.specs.ShiftRuns.{ShiftRun, shift_runs}
 use Rattle.scan_accounts.specs.MadeTurns.{clocks_among, happened_events}
 use Rattle.scan_accounts.proofs.OtherLines.{text_both}
 use Rattle.account_lines.specs.declared.lines.TurnPlace.{TurnPlace}
-use Rattle.run_cable.specs.HeardRuns.{Heard, all_runs, closed, heard_all}
+use Rattle.run_cable.specs.HeardRuns.{Heard, all_runs, closed, scans_counted, heard_all}
+use Rattle.run_cable.proofs.HeardLemmas.{scans_stay}
 use Rattle.run_cable.specs.KeptRuns.{Kept, IsKnown, Becomes, begun}
 use Rattle.account_plays.specs.RunTexts.{runs_text}
 use Rattle.account_plays.specs.AccountTurns.{chain_of, chain_heard, begun_at, TurnsFront, TurnsKept}
-use Rattle.account_plays.specs.AccountedTurns.{turn_text, AccountsTurn, AccountsFront}
-use Rattle.account_plays.proofs.HeardTurns.{turn_runs, clocks_go_on, usec_goes_on, happened_after}
+use Rattle.account_plays.specs.AccountedTurns.{turn_text, scans_if, AccountsTurn, AccountsFront}
+use Rattle.account_plays.proofs.HeardTurns.{plus_none, turn_runs, clocks_go_on, usec_goes_on, happened_after}
 
 -- where a turn led has no events
 pub led_without : (w : Went) (s : State) (k : Chain) → happened_events (led_on w s k) ≡ []
 led_without (went.On place) s k = refl
 led_without (went.Over (Some ending)) s k = refl
 led_without (went.Over None) s k = refl
+
+-- what counting scans leaves, and what it adds
+same_ended : (b : Bool) (h : Heard) → (scans_counted b h).ended ≡ h.ended
+same_ended true h = refl
+same_ended false h = refl
+
+same_clocks : (b : Bool) (h : Heard) → (scans_counted b h).clocks ≡ h.clocks
+same_clocks true h = refl
+same_clocks false h = refl
+
+same_usec : (b : Bool) (h : Heard) → (scans_counted b h).usec ≡ h.usec
+same_usec true h = refl
+same_usec false h = refl
+
+ir_counted : (b : Bool) (h : Heard) → (scans_counted b h).ir_scans ≡ h.ir_scans + scans_if b (count_by (λ (r : ShiftRun). beq r.ir true) h.ended)
+ir_counted true h = refl
+ir_counted false h = plus_none h.ir_scans
+
+dr_counted : (b : Bool) (h : Heard) → (scans_counted b h).dr_scans ≡ h.dr_scans + scans_if b (count_by (λ (r : ShiftRun). beq r.ir false) h.ended)
+dr_counted true h = refl
+dr_counted false h = plus_none h.dr_scans
 
 module _ {C K : Type 0} (cable : CableOf C) (sink : SinkOf K) (base : BaseLengths) (said : TurnPlace) (at to : Tap) (turn : Chain → Happened)
     (old new : C) (runs mid_runs new_runs : Kept) (out mid_out : Lines K) where
@@ -47,16 +71,24 @@ module _ {C K : Type 0} (cable : CableOf C) (sink : SinkOf K) (base : BaseLength
     first_put : Puts sink out (events_text false [] events) mid_out
     first_put = puts_back sink out mid_out (events_text false [] events) same whole kept t.turns.put
 
-    module _ (closes : Becomes mid_runs (closed mid_runs.heard) new_runs) (e : new_runs.lost ≡ false) (ended : List ShiftRun) (ended_is : ended ≡ new_runs.heard.ended) where
-      last : IsKnown mid_runs (closed mid_runs.heard) new_runs
-      last = closes e
+    module _ (closed_runs : Kept) (closes : Becomes mid_runs (closed mid_runs.heard) closed_runs)
+        (counts : Becomes closed_runs (scans_counted said.scans closed_runs.heard) new_runs) (e : new_runs.lost ≡ false) (ended : List ShiftRun) (ended_is : ended ≡ new_runs.heard.ended) where
+      counted : IsKnown closed_runs (scans_counted said.scans closed_runs.heard) new_runs
+      counted = counts e
+
+      last : IsKnown mid_runs (closed mid_runs.heard) closed_runs
+      last = closes counted.none_lost
 
       first : IsKnown (begun_at at runs) (heard_all (begun at runs.heard) (signals_of events)) mid_runs
       first = t.heard last.none_lost
 
+      closed_said : closed_runs.heard.ended ≡ shift_runs at (clocks_among events)
+      closed_said = ap (λ (h : Heard). h.ended) last.heard ∙ ap all_runs first.heard ∙ turn_runs at runs.heard events
+
       runs_said : ended ≡ shift_runs at (clocks_among events)
       runs_said =
-          ended_is ∙ ap (λ (h : Heard). h.ended) last.heard ∙ ap all_runs first.heard ∙ turn_runs at runs.heard events
+          ended_is ∙ ap (λ (h : Heard). h.ended) counted.heard ∙ same_ended said.scans closed_runs.heard ∙ ap (λ (h : Heard). h.ended) last.heard
+          ∙ ap all_runs first.heard ∙ turn_runs at runs.heard events
 
       pub accounted : (new_out : Lines K) → Puts sink mid_out (runs_text said base ended) new_out →
           AccountsTurn cable sink base said turn at old runs out (led_on w s) to new new_runs new_out
@@ -68,8 +100,14 @@ module _ {C K : Type 0} (cable : CableOf C) (sink : SinkOf K) (base : BaseLength
         sums = record {
           was_none_lost = first.none_lost;
           none_lost = e;
-          clocks = ap (λ (h : Heard). h.clocks) last.heard ∙ ap (λ (h : Heard). h.clocks) first.heard ∙ clocks_go_on events (begun at runs.heard);
-          usec = ap (λ (h : Heard). h.usec) last.heard ∙ ap (λ (h : Heard). h.usec) first.heard ∙ usec_goes_on events (begun at runs.heard);
+          clocks = ap (λ (h : Heard). h.clocks) counted.heard ∙ same_clocks said.scans closed_runs.heard ∙ ap (λ (h : Heard). h.clocks) last.heard ∙ ap (λ (h : Heard). h.clocks) first.heard ∙ clocks_go_on events (begun at runs.heard);
+          usec = ap (λ (h : Heard). h.usec) counted.heard ∙ same_usec said.scans closed_runs.heard ∙ ap (λ (h : Heard). h.usec) last.heard ∙ ap (λ (h : Heard). h.usec) first.heard ∙ usec_goes_on events (begun at runs.heard);
+          ir_scans = ap (λ (h : Heard). h.ir_scans) counted.heard ∙ ir_counted said.scans closed_runs.heard
+              ∙ ap₂ (λ n m. n + scans_if said.scans m) (ap (λ (h : Heard). h.ir_scans) last.heard ∙ ap (λ (h : Heard). h.ir_scans) first.heard
+              ∙ (scans_stay (signals_of events) (begun at runs.heard)).0) (ap (count_by (λ (r : ShiftRun). beq r.ir true)) closed_said);
+          dr_scans = ap (λ (h : Heard). h.dr_scans) counted.heard ∙ dr_counted said.scans closed_runs.heard
+              ∙ ap₂ (λ n m. n + scans_if said.scans m) (ap (λ (h : Heard). h.dr_scans) last.heard ∙ ap (λ (h : Heard). h.dr_scans) first.heard
+              ∙ (scans_stay (signals_of events) (begun at runs.heard)).1) (ap (count_by (λ (r : ShiftRun). beq r.ir false)) closed_said);
         };
       }
 

@@ -28,8 +28,8 @@ pub turn_runs : (at : Tap) (h : Heard) (es : List Event) → all_runs (heard_all
 turn_runs at h es = runs_are (signals_of es) (begun at h) refl refl ∙ ap (shift_runs at) (clocks_same es)
 
 -- the clocks and the microseconds that were heard of events
-plus_zero : (n : ℕ) → n ≡ n + 0
-plus_zero n = omega arith
+pub plus_none : (n : ℕ) → n ≡ n + 0
+plus_none n = omega arith
 
 one_more : (n m : ℕ) → (n + 1) + m ≡ n + suc m
 one_more n m = omega arith
@@ -38,7 +38,7 @@ both_more : (n m k : ℕ) → (n + m) + k ≡ n + (m + k)
 both_more n m k = omega arith
 
 pub clocks_go_on : (es : List Event) (h : Heard) → (heard_all h (signals_of es)).clocks ≡ h.clocks + length (clocks_among es)
-clocks_go_on [] h = plus_zero h.clocks
+clocks_go_on [] h = plus_none h.clocks
 clocks_go_on (events.Clock tms tdi tdo ∷ es) h =
     clocks_go_on es (heard_clock h (record { tms = tms; tdi = tdi; tdo = tdo })) ∙ one_more h.clocks (length (clocks_among es))
 clocks_go_on (Print bytes ∷ es) h = clocks_go_on es h
@@ -47,7 +47,7 @@ clocks_go_on (Usec n ∷ es) h = clocks_go_on es (heard_signal h (Waits n))
 clocks_go_on (Hertz n ∷ es) h = clocks_go_on es h
 
 pub usec_goes_on : (es : List Event) (h : Heard) → (heard_all h (signals_of es)).usec ≡ h.usec + usec_among es
-usec_goes_on [] h = plus_zero h.usec
+usec_goes_on [] h = plus_none h.usec
 usec_goes_on (events.Clock tms tdi tdo ∷ es) h =
     usec_goes_on es (heard_clock h k) ∙ ap (λ n. n + usec_among es) (usec_stays h k)
   where

@@ -1,9 +1,10 @@
 -- On the turns of a run, one after another, with their accounts.
-use Rattle.std.proofs.Common.{◌≡◌, ◌<◌, ◌≤◌, ◌⊎◌, inl, inr, ℕ, zero, suc, ◌+◌, ◌-◌, Bool, false, List, [], ◌∷◌, ◌++◌, length, map, Option, Some, None, Err, refl, sym, ap, ap₂, subst, ◌∙◌, append_assoc, arith}
-use Rattle.std.specs.Prelude.{flat_map, slice_get}
+use Rattle.std.proofs.Common.{◌≡◌, ◌<◌, ◌≤◌, ◌⊎◌, inl, inr, ℕ, zero, suc, ◌+◌, ◌-◌, Bool, true, false, List, [], ◌∷◌, ◌++◌, length, map, Option, Some, None, Err, refl, sym, ap, ap₂, subst, ◌∙◌, append_assoc, arith}
+use Rattle.std.specs.Prelude.{flat_map, slice_get, sum_by}
 use Rattle.std.specs.Option.{option_map_or}
 use Rattle.std.proofs.lemmas.List.{append-nil, length-append, map-append}
 use Rattle.std.proofs.lemmas.List.Concat.{flat_map-append}
+use Rattle.std.proofs.lemmas.List.Sums.{sum_by-append}
 use Rattle.tap_states.specs.declared.Tap.{Tap}
 use Rattle.tool_io.specs.declared.lines.Lines.{Lines}
 use Rattle.tool_io.specs.declared.outside.Sink.{Ghosts as SinkOf}
@@ -32,11 +33,11 @@ use Rattle.scan_accounts.specs.MadeTurns.{MadeTurn, clocks_among, usec_among, ha
 use Rattle.account_lines.specs.declared.lines.TurnPlace.{TurnPlace}
 use Rattle.run_cable.specs.KeptRuns.{Kept}
 use Rattle.account_plays.specs.AccountTurns.{chain_of, chain_heard}
-use Rattle.account_plays.specs.AccountedTurns.{turn_text, SumsGoOn, AccountsTurn, AccountsFront, HasAccounted}
-use Rattle.account_plays.specs.AccountedRuns.{said_in, turns_text, HasTurnAt, IsNextCodeTurn, AreNextCodeTurns, HasStopped, PlayedSoFar, PlayedTurns, PlayedFront, HasPlayedTurns}
+use Rattle.account_plays.specs.AccountedTurns.{turn_text, turn_scans, SumsGoOn, AccountsTurn, AccountsFront, HasAccounted}
+use Rattle.account_plays.specs.AccountedRuns.{said_in, turns_text, turns_scans, TurnsGoOn, HasTurnAt, IsNextCodeTurn, AreNextCodeTurns, HasStopped, PlayedSoFar, PlayedTurns, PlayedFront, HasPlayedTurns}
 use Rattle.account_plays.specs.declared.failures.AccountFailed.{AccountFailed}
 use Rattle.account_plays.specs.declared.failures.AccountFailed.TheVariants.{Write, Lost}
-use Rattle.account_plays.proofs.HeardTurns.{clocks_both, usec_both, happened_after}
+use Rattle.account_plays.proofs.HeardTurns.{plus_none, clocks_both, usec_both, happened_after}
 use Rattle.account_plays.proofs.AccountLemmas.{led_without}
 
 -- ---- lists
@@ -80,20 +81,25 @@ pub over_stops : (code : CodeLists) (ending : Option Ending) (n : ℕ) (s u : St
 over_stops code (Some ending) n s u k l = λ at e. absurd cc
 over_stops code None n s u k l = λ at e. absurd cc
 
-plus_none : (n : ℕ) → n ≡ n + 0
-plus_none n = omega arith
+pub from_none : (n : ℕ) → n ≡ 0 + n
+from_none n = omega arith
 
 next_count : (i n : ℕ) → (i + 1) + n ≡ i + suc n
 next_count i n = omega arith
 
-pub sums_both : (old mid new : Kept) (es fs : List Event) → SumsGoOn old es mid → SumsGoOn mid fs new → SumsGoOn old (es ++ fs) new
-sums_both old mid new es fs a b = record {
+sum_on : (a b c d m n : ℕ) → b ≡ a + m → c ≡ b + n → d ≡ m + n → c ≡ a + d
+sum_on a b c d m n e f g = omega (arith, e, f, g)
+
+pub sums_both : (old mid new : Kept) (es fs : List Event) (ir dr more_ir more_dr all_ir all_dr : ℕ) → SumsGoOn old es ir dr mid → SumsGoOn mid fs more_ir more_dr new →
+    all_ir ≡ ir + more_ir → all_dr ≡ dr + more_dr → SumsGoOn old (es ++ fs) all_ir all_dr new
+sums_both old mid new es fs ir dr more_ir more_dr all_ir all_dr a b e f = record {
   was_none_lost = a.was_none_lost;
   none_lost = b.none_lost;
-  clocks = b.clocks ∙ ap (λ n. n + length (clocks_among fs)) a.clocks
-      ∙ (let e : length (clocks_among (es ++ fs)) ≡ length (clocks_among es) + length (clocks_among fs) = clocks_both es fs in omega (arith, e));
-  usec = b.usec ∙ ap (λ n. n + usec_among fs) a.usec
-      ∙ (let e : usec_among (es ++ fs) ≡ usec_among es + usec_among fs = usec_both es fs in omega (arith, e));
+  clocks = sum_on old.heard.clocks mid.heard.clocks new.heard.clocks (length (clocks_among (es ++ fs))) (length (clocks_among es)) (length (clocks_among fs))
+      a.clocks b.clocks (clocks_both es fs);
+  usec = sum_on old.heard.usec mid.heard.usec new.heard.usec (usec_among (es ++ fs)) (usec_among es) (usec_among fs) a.usec b.usec (usec_both es fs);
+  ir_scans = sum_on old.heard.ir_scans mid.heard.ir_scans new.heard.ir_scans all_ir ir more_ir a.ir_scans b.ir_scans e;
+  dr_scans = sum_on old.heard.dr_scans mid.heard.dr_scans new.heard.dr_scans all_dr dr more_dr a.dr_scans b.dr_scans f;
 }
 
 module _ {C K : Type 0} (cable : CableOf C) (sink : SinkOf K) (code : CodeLists) (table : List TurnPlace) (base : BaseLengths) (start : ℕ) (s0 : State)
@@ -112,7 +118,14 @@ module _ {C K : Type 0} (cable : CableOf C) (sink : SinkOf K) (code : CodeLists)
     count = refl;
     goes = λ more n. ap (λ (m : ℕ). run_of code m start s0 (chain_of cable base from old more)) (omega arith);
     are = λ more. tt;
-    sums = λ e. record { was_none_lost = e; none_lost = e; clocks = plus_none runs.heard.clocks; usec = plus_none runs.heard.usec };
+    sums = λ e. record {
+      was_none_lost = e;
+      none_lost = e;
+      clocks = plus_none runs.heard.clocks;
+      usec = plus_none runs.heard.usec;
+      ir_scans = plus_none runs.heard.ir_scans;
+      dr_scans = plus_none runs.heard.dr_scans;
+    };
   }
 
   -- one turn more
@@ -178,6 +191,14 @@ module _ {C K : Type 0} (cable : CableOf C) (sink : SinkOf K) (code : CodeLists)
         ∙ ap (λ (xs : List ℕ). turns_text table base p.turns ++ xs) (sym (append-nil (turn_text (said_in table here.piece) base at own)))
         ∙ sym (flat_map-append text p.turns (turn_of own ∷ []))
 
+    scans_more : (ir : Bool) (own : List Event) →
+        turns_scans table ir (p.turns ++ turn_of own ∷ []) ≡ turns_scans table ir p.turns + turn_scans said ir at own
+    scans_more ir own =
+        let scans : MadeTurn → ℕ = λ (t : MadeTurn). turn_scans (said_in table t.place) ir t.from t.events in
+        sum_by-append scans p.turns (turn_of own ∷ [])
+        ∙ ap (λ n. turns_scans table ir p.turns + n) (sym (from_none (scans (turn_of own))))
+        ∙ ap (λ (x : TurnPlace). turns_scans table ir p.turns + turn_scans x ir at own) told
+
     -- a front of its text was put
     played_front : (last_out : Lines K) → AccountsFront cable sink base said (turn_at code place s) at new new_out last_out →
         PlayedFront cable sink code table base all from old runs out last_out
@@ -219,6 +240,12 @@ module _ {C K : Type 0} (cable : CableOf C) (sink : SinkOf K) (code : CodeLists)
           turns_on a.events more n ∙ ap (λ (h : Happened). after p.events (goes_on h s k (run_of code n))) (a.does more)
           ∙ ap (after p.events) (goes_after a.events rest s k (run_of code n)) ∙ after_twice p.events a.events (goes_on rest s k (run_of code n))
 
+      sums_more : last_runs.lost ≡ false → TurnsGoOn table runs (p.events ++ a.events) (p.turns ++ turn_of a.events ∷ []) last_runs
+      sums_more e =
+          sums_both runs new_runs last_runs p.events a.events (turns_scans table true p.turns) (turns_scans table false p.turns) (turn_scans said true at a.events)
+          (turn_scans said false at a.events) (turns_scans table true (p.turns ++ turn_of a.events ∷ [])) (turns_scans table false (p.turns ++ turn_of a.events ∷ []))
+          (p.sums a.sums.was_none_lost) a.sums (scans_more true a.events) (scans_more false a.events)
+
       pub one_more : length (p.turns ++ turn_of a.events ∷ []) ≡ i + 1
       one_more = length-append p.turns (turn_of a.events ∷ []) ∙ ap (λ n. n + 1) p.count
 
@@ -234,7 +261,7 @@ module _ {C K : Type 0} (cable : CableOf C) (sink : SinkOf K) (code : CodeLists)
             ap (λ (m : ℕ). all m (whole_chain a.events more)) (next_count i n) ∙ goes_then more n
             ∙ ap (λ (v : Went). after (p.events ++ a.events) (goes_on (led_on v u (chain_of cable base to last more)) s (before a.events more) (run_of code n))) is;
         are = λ more. are_next a.events more a.events (own_events more);
-        sums = λ e. sums_both runs new_runs last_runs p.events a.events (p.sums a.sums.was_none_lost) a.sums;
+        sums = sums_more;
       }
 
       -- and the run is over
@@ -267,7 +294,7 @@ module _ {C K : Type 0} (cable : CableOf C) (sink : SinkOf K) (code : CodeLists)
             ended = λ more.
                 ap (λ (r : Run). ending_of r.outcome) (last_run more)
                 ∙ over_ends code ending m s u (before a.events more) (chain_of cable base to last more);
-            sums = λ e. sums_both runs new_runs last_runs p.events a.events (p.sums a.sums.was_none_lost) a.sums;
+            sums = sums_more;
           }
 
   -- all turns are spent

@@ -1,5 +1,5 @@
 -- On a whole run of a code, by its prologue and its turns.
-use Rattle.std.proofs.Common.{◌≡◌, ◌⊎◌, inl, inr, ℕ, suc, Bool, false, List, [], ◌∷◌, ◌++◌, length, Option, Some, None, Err, refl, sym, ap, subst, ◌∙◌, append_assoc, arith, ◌≤◌}
+use Rattle.std.proofs.Common.{◌≡◌, ◌⊎◌, inl, inr, ℕ, suc, Bool, true, false, List, [], ◌∷◌, ◌++◌, length, Option, Some, None, Err, refl, sym, ap, subst, ◌∙◌, append_assoc, arith, ◌≤◌}
 use Rattle.std.proofs.lemmas.List.{append-nil}
 use Rattle.tap_states.specs.declared.Tap.{Tap}
 use Rattle.tap_states.specs.declared.Tap.TheVariants.{Reset}
@@ -42,9 +42,10 @@ use Rattle.account_plays.specs.declared.failures.AccountFailed.TheVariants.{Writ
 use Rattle.account_plays.specs.declared.turns.Part.TheVariants.{Prologue}
 use Rattle.account_plays.specs.AccountTurns.{part_at, chain_of, chain_heard, begun_at, TurnsFront, TurnsKept}
 use Rattle.account_plays.specs.AccountedTurns.{SumsGoOn}
-use Rattle.account_plays.specs.AccountedRuns.{turns_text, IsNextCodeTurn, AreNextCodeTurns, HasStopped, PlayedTurns, PlayedFront, HasPlayedTurns, PlayedRun, PlayedRunFront, HasPlayedRun}
-use Rattle.account_plays.proofs.HeardTurns.{clocks_go_on, usec_goes_on, happened_after}
-use Rattle.account_plays.proofs.RunAccounts.{heard_both, one_turn, over_ends, over_without, over_stops, sums_both}
+use Rattle.account_plays.specs.AccountedRuns.{turns_text, turns_scans, TurnsGoOn, IsNextCodeTurn, AreNextCodeTurns, HasStopped, PlayedTurns, PlayedFront, HasPlayedTurns, PlayedRun, PlayedRunFront, HasPlayedRun}
+use Rattle.run_cable.proofs.HeardLemmas.{scans_stay}
+use Rattle.account_plays.proofs.HeardTurns.{plus_none, clocks_go_on, usec_goes_on, happened_after}
+use Rattle.account_plays.proofs.RunAccounts.{heard_both, one_turn, over_ends, over_without, over_stops, from_none, sums_both}
 
 -- where the next procedure led
 led_happens : (w : Went) (s : State) (k : Chain) → happens k (led_to w s) ≡ led_on w s k
@@ -123,7 +124,7 @@ module _ {C K : Type 0} (cable : CableOf C) (sink : SinkOf K) (code : CodeLists)
     first_put : Puts sink out (events_text false [] first) mid_out
     first_put = puts_back sink out mid_out (events_text false [] first) same whole kept t.turns.put
 
-    first_sums : mid_runs.lost ≡ false → SumsGoOn runs first mid_runs
+    first_sums : mid_runs.lost ≡ false → SumsGoOn runs first 0 0 mid_runs
     first_sums e =
         let known : IsKnown (begun_at Reset runs) (heard_all (begun Reset runs.heard) (signals_of first)) mid_runs = t.heard e in
         record {
@@ -131,6 +132,8 @@ module _ {C K : Type 0} (cable : CableOf C) (sink : SinkOf K) (code : CodeLists)
           none_lost = e;
           clocks = ap (λ (h : Heard). h.clocks) known.heard ∙ clocks_go_on first (begun Reset runs.heard);
           usec = ap (λ (h : Heard). h.usec) known.heard ∙ usec_goes_on first (begun Reset runs.heard);
+          ir_scans = ap (λ (h : Heard). h.ir_scans) known.heard ∙ (scans_stay (signals_of first) (begun Reset runs.heard)).0 ∙ plus_none runs.heard.ir_scans;
+          dr_scans = ap (λ (h : Heard). h.dr_scans) known.heard ∙ (scans_stay (signals_of first) (begun Reset runs.heard)).1 ∙ plus_none runs.heard.dr_scans;
         }
 
     begun_is : (es : List Event) (more : List Bool) →
@@ -172,7 +175,7 @@ module _ {C K : Type 0} (cable : CableOf C) (sink : SinkOf K) (code : CodeLists)
             gives = λ more. events more most;
             ended = λ more. ap (λ (r : Run). ending_of r.outcome) (run more most)
                 ∙ over_ends code ending most first_state v (before (first ++ []) more) (beyond [] more);
-            sums = λ e. subst (λ (es : List Event). SumsGoOn runs es mid_runs) (sym (append-nil first)) (first_sums e);
+            sums = λ e. subst (λ (es : List Event). SumsGoOn runs es 0 0 mid_runs) (sym (append-nil first)) (first_sums e);
           }
 
       -- turns were played after it
@@ -206,7 +209,8 @@ module _ {C K : Type 0} (cable : CableOf C) (sink : SinkOf K) (code : CodeLists)
           ]);
           gives = λ more. ap (λ (r : Run). r.events) (on_is p.events more most) ∙ ap (λ (es : List Event). first ++ es) (p.gives more);
           ended = λ more. ap (λ (r : Run). ending_of r.outcome) (on_is p.events more most) ∙ p.ended more;
-          sums = λ e. (let s : SumsGoOn mid_runs p.events new_runs = p.sums e in sums_both runs mid_runs new_runs first p.events (first_sums s.was_none_lost) s);
+          sums = λ e. (let s : TurnsGoOn table mid_runs p.events p.turns new_runs = p.sums e in let ir : ℕ = turns_scans table true p.turns in let dr : ℕ = turns_scans table false p.turns in
+              sums_both runs mid_runs new_runs first p.events 0 0 ir dr ir dr (first_sums s.was_none_lost) s (from_none ir) (from_none dr));
         }
 
         pub turns_failed : (failed : AccountFailed) (most : ℕ) (new : C) (new_runs : Kept) (new_out : Lines K) →

@@ -1,5 +1,5 @@
 -- The turns of a run of a code, one after another, with their accounts.
-use Rattle.std.specs.Prelude.{◌≡◌, ◌≤◌, ◌⊎◌, ℕ, suc, ◌+◌, Bool, false, List, [], ◌∷◌, ◌++◌, length, flat_map, slice_get, Option, Some, Result, Ok, Err}
+use Rattle.std.specs.Prelude.{◌≡◌, ◌≤◌, ◌⊎◌, ℕ, suc, ◌+◌, Bool, true, false, List, sum_by, [], ◌∷◌, ◌++◌, length, flat_map, slice_get, Option, Some, Result, Ok, Err}
 use Rattle.std.specs.Option.{option_map_or}
 use Rattle.tap_states.specs.declared.Tap.{Tap}
 use Rattle.tool_io.specs.declared.lines.Lines.{Lines}
@@ -23,7 +23,7 @@ use Rattle.run_cable.specs.KeptRuns.{Kept}
 use Rattle.account_plays.specs.declared.failures.AccountFailed.{AccountFailed}
 use Rattle.account_plays.specs.declared.failures.AccountFailed.TheVariants.{Write, Lost}
 use Rattle.account_plays.specs.AccountTurns.{chain_of, chain_heard}
-use Rattle.account_plays.specs.AccountedTurns.{turn_text, SumsGoOn}
+use Rattle.account_plays.specs.AccountedTurns.{turn_text, turn_scans, SumsGoOn}
 
 -- what a table tells of a piece; of a piece that it does not have, its number alone
 abbrev pub said_in : List TurnPlace → ℕ → TurnPlace
@@ -32,6 +32,14 @@ said_in table piece = option_map_or (λ said. said) (slice_get table piece) (rec
 -- the text of turns, one after another
 abbrev pub turns_text : List TurnPlace → BaseLengths → List MadeTurn → List ℕ
 turns_text table base turns = flat_map (λ (t : MadeTurn). turn_text (said_in table t.place) base t.from t.events) turns
+
+-- how many runs of these registers turns have that scan
+abbrev pub turns_scans : List TurnPlace → Bool → List MadeTurn → ℕ
+turns_scans table ir turns = sum_by (λ (t : MadeTurn). turn_scans (said_in table t.place) ir t.from t.events) turns
+
+-- the sums go on by those of events and of the scans of turns
+abbrev pub TurnsGoOn : List TurnPlace → Kept → List Event → List MadeTurn → Kept → Type 0
+TurnsGoOn table old events turns new = SumsGoOn old events (turns_scans table true turns) (turns_scans table false turns) new
 
 -- This is told of the turn at a place of a code: of its piece, which a table counts from 0 and a code from 1.
 pub record HasTurnAt (code : CodeLists) (table : List TurnPlace) (place : ℕ) (said : TurnPlace) : Type 0 where
@@ -73,7 +81,7 @@ module _ {C K : Type 0} (cable : CableOf C) (sink : SinkOf K) (code : CodeLists)
     pub goes : (more : List Bool) (n : ℕ) → all (i + n) (chain_heard cable base from old events more)
         ≡ after events (run_of code n place s (chain_of cable base at new more))
     pub are : (more : List Bool) → AreNextCodeTurns code table (λ n. all n (chain_heard cable base from old events more)) turns
-    pub sums : new_runs.lost ≡ false → SumsGoOn runs events new_runs
+    pub sums : new_runs.lost ≡ false → TurnsGoOn table runs events turns new_runs
 
   -- All turns of a run of at most so many were played, and it stands so; there is no ending where it met what no valid
   -- code meets.
@@ -87,7 +95,7 @@ module _ {C K : Type 0} (cable : CableOf C) (sink : SinkOf K) (code : CodeLists)
     pub whole : (more : List Bool) → (length turns ≡ most) ⊎ HasStopped (all (length turns) (chain_heard cable base from old events more))
     pub gives : (more : List Bool) → (all most (chain_heard cable base from old events more)).events ≡ events
     pub ended : (more : List Bool) → ending_of (all most (chain_heard cable base from old events more)).outcome ≡ ending
-    pub sums : new_runs.lost ≡ false → SumsGoOn runs events new_runs
+    pub sums : new_runs.lost ≡ false → TurnsGoOn table runs events turns new_runs
 
   -- A front was put of the text of the turns that the run has at the far end of the cable.
   pub record PlayedFront (new_out : Lines K) : Type 0 where
@@ -118,7 +126,7 @@ module _ {C K : Type 0} (cable : CableOf C) (sink : SinkOf K) (code : CodeLists)
     pub whole : (more : List Bool) → (length turns ≡ most) ⊎ HasStopped (all (length turns) (chain_heard cable base from old events more))
     pub gives : (more : List Bool) → (all most (chain_heard cable base from old events more)).events ≡ events
     pub ended : (more : List Bool) → ending_of (all most (chain_heard cable base from old events more)).outcome ≡ ending
-    pub sums : new_runs.lost ≡ false → SumsGoOn runs events new_runs
+    pub sums : new_runs.lost ≡ false → TurnsGoOn table runs events turns new_runs
 
   -- A front was put of the text that comes before its turns and of that of turns that it has at the far end of the cable.
   pub record PlayedRunFront (new_out : Lines K) : Type 0 where

@@ -1,5 +1,6 @@
 -- What a turn of a code does over a cable that never fails, with the account of its runs.
-use Rattle.std.specs.Prelude.{◌≡◌, ℕ, ◌+◌, Bool, false, List, [], ◌++◌, length, Result, Ok, Err}
+use Rattle.std.specs.Prelude.{◌≡◌, ℕ, ◌+◌, Bool, true, false, List, [], ◌++◌, length, count_by, Result, Ok, Err}
+use Rattle.std.specs.Bool.{beq}
 use Rattle.tap_states.specs.declared.Tap.{Tap}
 use Rattle.tool_io.specs.declared.lines.Lines.{Lines}
 use Rattle.tool_io.specs.declared.outside.Sink.{Ghosts as SinkOf}
@@ -12,7 +13,7 @@ use Rattle.stapl_meaning.specs.States.{Happened, with_events}
 use Rattle.stapl_meaning.specs.Texts.{events_text}
 use Rattle.stapl_instructions.specs.declared.control.Went.{Went}
 use Rattle.written_cable.specs.Signals.{signals_of}
-use Rattle.scan_accounts.specs.ShiftRuns.{shift_runs}
+use Rattle.scan_accounts.specs.ShiftRuns.{ShiftRun, shift_runs}
 use Rattle.scan_accounts.specs.MadeTurns.{clocks_among, usec_among, happened_events}
 use Rattle.account_lines.specs.declared.lines.TurnPlace.{TurnPlace}
 use Rattle.run_cable.specs.KeptRuns.{Kept}
@@ -26,12 +27,24 @@ use Rattle.account_plays.specs.RunTexts.{runs_text}
 abbrev pub turn_text : TurnPlace → BaseLengths → Tap → List Event → List ℕ
 turn_text turn base at events = events_text false [] events ++ runs_text turn base (shift_runs at (clocks_among events))
 
--- the sums of clocks and of microseconds go on by those of events, and nothing was lost
-pub record SumsGoOn (old : Kept) (events : List Event) (new : Kept) : Type 0 where
+-- how many runs of these registers a turn has that scans, and of none if it does not
+abbrev pub scans_if : Bool → ℕ → ℕ
+scans_if true n = n
+scans_if false n = 0
+
+abbrev pub turn_scans : TurnPlace → Bool → Tap → List Event → ℕ
+turn_scans turn ir at events =
+    scans_if turn.scans (count_by (λ (r : ShiftRun). beq r.ir ir) (shift_runs at (clocks_among events)))
+
+-- The sums of clocks and of microseconds go on by those of events, and those of scans by these numbers, and nothing was
+-- lost.
+pub record SumsGoOn (old : Kept) (events : List Event) (ir dr : ℕ) (new : Kept) : Type 0 where
   pub was_none_lost : old.lost ≡ false
   pub none_lost : new.lost ≡ false
   pub clocks : new.heard.clocks ≡ old.heard.clocks + length (clocks_among events)
   pub usec : new.heard.usec ≡ old.heard.usec + usec_among events
+  pub ir_scans : new.heard.ir_scans ≡ old.heard.ir_scans + ir
+  pub dr_scans : new.heard.dr_scans ≡ old.heard.dr_scans + dr
 
 module _ {C K : Type 0} (cable : CableOf C) (sink : SinkOf K) (base : BaseLengths) (said : TurnPlace) where
   -- The turn was played, and its text was put.
@@ -42,7 +55,7 @@ module _ {C K : Type 0} (cable : CableOf C) (sink : SinkOf K) (base : BaseLength
     pub put : Puts sink out (turn_text said base at events) new_out
     pub does : (more : List Bool) → turn (chain_heard cable base at old events more)
         ≡ with_events events (rest (chain_of cable base to new more))
-    pub sums : SumsGoOn runs events new_runs
+    pub sums : SumsGoOn runs events (turn_scans said true at events) (turn_scans said false at events) new_runs
 
   -- A front of the text was put that the turn has at the far end of the cable.
   pub record AccountsFront (turn : Chain → Happened) (at : Tap) (old : C) (out new_out : Lines K) : Type 0 where

@@ -63,6 +63,7 @@ pub fn account_turn<C: Cable, K: Sink, L: Ledger>(
     ) {
         Ok(turned) => {
             runs.close();
+            runs.count_scans(said.scans);
             if runs.is_lost() {
                 return Err(AccountFailed::Lost);
             }

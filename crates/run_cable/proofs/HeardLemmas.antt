@@ -151,6 +151,24 @@ usec_shifted (Some ir) (Some on) b c h = refl
 pub usec_stays : (h : Heard) (k : Clock) → (heard_clock h k).usec ≡ h.usec
 usec_stays h k = usec_shifted (shifting h.tap) (shifting (next_of h.tap k.tms)) k.tdi k.tdo h
 
+-- the scans that were counted stay
+abbrev pub ScansStay : Heard → Heard → Type 0
+ScansStay h g = (g.ir_scans ≡ h.ir_scans) × (g.dr_scans ≡ h.dr_scans)
+
+scans_shifted : (now next : Option Bool) (b c : Bool) (h : Heard) → ScansStay h (shifted_on now next b c h)
+scans_shifted None next b c h = (refl, refl)
+scans_shifted (Some ir) None b c h = (refl, refl)
+scans_shifted (Some ir) (Some on) b c h = (refl, refl)
+
+pub scans_stay : (signals : List Signal) (h : Heard) → ScansStay h (heard_all h signals)
+scans_stay [] h = (refl, refl)
+scans_stay (Waits n ∷ signals) h = scans_stay signals (heard_signal h (Waits n))
+scans_stay (Tunes n ∷ signals) h = scans_stay signals h
+scans_stay (Pulses k ∷ signals) h =
+    let first = scans_shifted (shifting h.tap) (shifting (next_of h.tap k.tms)) k.tdi k.tdo h in
+    let rest = scans_stay signals (heard_clock h k) in
+    (rest.0 ∙ first.0, rest.1 ∙ first.1)
+
 -- a clock is its shift and a step of the controllers
 pub one_heard : (h mid new : Heard) (k : Clock) (to : Tap) → to ≡ next_of h.tap k.tms →
     mid ≡ shifted_on (shifting h.tap) (shifting to) k.tdi k.tdo h → new ≡ record mid { tap = to; clocks = mid.clocks + 1 } →

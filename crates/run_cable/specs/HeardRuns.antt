@@ -1,20 +1,23 @@
 -- What is known of the runs of clocks after each signal that was made: the runs that are over, the one that goes on, and
 -- sums (IEEE 1149.1, controller states Shift-IR and Shift-DR).
-use Rattle.std.specs.Prelude.{◌≡◌, ℕ, suc, ◌+◌, Bool, List, [], ◌∷◌, ◌++◌, Option, Some, None}
+use Rattle.std.specs.Prelude.{◌≡◌, ℕ, suc, ◌+◌, Bool, true, false, List, count_by, [], ◌∷◌, ◌++◌, Option, Some, None}
+use Rattle.std.specs.Bool.{beq}
 use Rattle.tap_states.specs.declared.Tap.{Tap}
 use Rattle.tap_states.specs.Tap.{next_of}
 use Rattle.dev_card.specs.Board.{Clock}
 use Rattle.scan_paths.specs.Cables.{Signal, Pulses, Waits, Tunes}
 use Rattle.scan_accounts.specs.ShiftRuns.{ShiftRun, shifting}
 
--- The state of the controllers, the runs that are over, the run that goes on, if one does, and how many clocks were
--- made and microseconds waited in all.
+-- The state of the controllers, the runs that are over, the run that goes on, if one does, how many clocks were made and
+-- microseconds waited in all, and how many runs of both kinds of registers were counted as scans.
 pub record Heard : Type 0 where
   pub tap : Tap
   pub ended : List ShiftRun
   pub going : Option ShiftRun
   pub clocks : ℕ
   pub usec : ℕ
+  pub ir_scans : ℕ
+  pub dr_scans : ℕ
 
 -- the run that goes on with more bits, in and out, at its end, or a run of these registers that begins with them
 abbrev pub grown : Bool → List Bool → List Bool → Option ShiftRun → ShiftRun
@@ -32,6 +35,14 @@ all_runs h = h.ended ++ last_run h.going
 
 abbrev pub closed : Heard → Heard
 closed h = record h { ended = all_runs h; going = None }
+
+-- the runs that are over are counted as scans, if they are such
+abbrev pub scans_counted : Bool → Heard → Heard
+scans_counted false h = h
+scans_counted true h = record h {
+  ir_scans = h.ir_scans + count_by (λ (r : ShiftRun). beq r.ir true) h.ended;
+  dr_scans = h.dr_scans + count_by (λ (r : ShiftRun). beq r.ir false) h.ended;
+}
 
 -- a run that goes on is over if no register shifts at the next clock
 abbrev pub over_if : Option Bool → Heard → Heard

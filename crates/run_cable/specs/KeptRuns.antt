@@ -49,10 +49,12 @@ EndsThere free (Some at) = at.low + at.count ≡ free
 
 -- What is kept is laid out well: the lists have as many bits as each other, the places lie below the first free one, and
 -- that of the run that goes on ends there. The sums are small.
-pub record IsLaid (free : ℕ) (ended : List RunPlace) (going : Option RunPlace) (bits_in bits_out : List Bool) (clocks usec : ℕ) : Type 0 where
+pub record IsLaid (free : ℕ) (ended : List RunPlace) (going : Option RunPlace) (bits_in bits_out : List Bool) (clocks usec ir_scans dr_scans : ℕ) : Type 0 where
   pub inside : free ≤ length bits_in
   pub as_many : length bits_out ≡ length bits_in
   pub below : All (LiesBelow free) ended
   pub ends : EndsThere free going
   pub few_clocks : clocks < 2 ^ 63
   pub few_usec : usec < 2 ^ 63
+  pub few_ir : ir_scans < 2 ^ 63
+  pub few_dr : dr_scans < 2 ^ 63

@@ -1,6 +1,7 @@
 //! The runs of clocks at which a register shifts.
-ghost use Rattle.std.specs.Prelude.{◌≡◌, ◌≤◌, ◌<◌, ◌+◌, ◌-◌, ◌^◌, ◌∷◌, ◌++◌, ◌↔◌, [], true, false, length, map, Some, None, IfOk, IsTrue};
+ghost use Rattle.std.specs.Prelude.{◌≡◌, ◌≤◌, ◌<◌, ◌+◌, ◌-◌, ◌^◌, ◌∷◌, ◌++◌, ◌↔◌, [], true, false, length, map, count_by, Some, None, IfOk, IsTrue};
 ghost use Rattle.std.specs.Option.{option_map};
+ghost use Rattle.std.specs.Bool.{beq};
 ghost use Rattle.base.specs.Bits.{low_bits};
 ghost use Rattle.bit_list.specs.declared.TheConstants.{MOST_BITS};
 ghost use Rattle.tap_states.specs.Tap.{next_of};
@@ -8,7 +9,7 @@ ghost use Rattle.dev_card.specs.Clocks.{clocks_with, still_inputs};
 ghost use Rattle.dev_card.specs.Blocks.{block_inputs};
 ghost use Rattle.scan_paths.specs.Cables.{Pulses, Waits, pulsed};
 ghost use Rattle.scan_accounts.specs.ShiftRuns.{shifting};
-ghost use Rattle.run_cable.specs.HeardRuns.{grown_by, closed, shifted_on, stilled};
+ghost use Rattle.run_cable.specs.HeardRuns.{grown_by, closed, shifted_on, stilled, scans_counted};
 ghost use Rattle.run_cable.specs.KeptRuns.{Becomes, Hears, begun};
 ghost use Rattle.run_cable.specs.EndedRuns.{runs_in, AreInside};
 
@@ -41,6 +42,8 @@ pub struct Runs {
     free: u32,
     clocks: u64,
     usec: u64,
+    ir_scans: u64,
+    dr_scans: u64,
     lost: bool,
 }
 
@@ -58,13 +61,15 @@ impl Model for Runs {
         going = option_map (run_at r.bits_in r.bits_out) r.going;
         clocks = r.clocks;
         usec = r.usec;
+        ir_scans = r.ir_scans;
+        dr_scans = r.dr_scans;
       };
       lost = r.lost;
       bits_left = length r.bits_in - r.free;
       runs_left = vec_capacity r.ended - length r.ended.items;
     } };
 
-    ghost invariant = { λ r. IsLaid r.free r.ended.items r.going r.bits_in r.bits_out r.clocks r.usec };
+    ghost invariant = { λ r. IsLaid r.free r.ended.items r.going r.bits_in r.bits_out r.clocks r.usec r.ir_scans r.dr_scans };
 }
 
 // The registers that shift at a clock before which the controllers stand in this state: true for the instruction
@@ -77,6 +82,13 @@ fn shifting(tap: Tap) -> Option<bool>
         Tap::DrShift => Some(false),
         _ => None,
     }
+}
+
+// How many of these runs are of these registers.
+fn count_of(places: &[RunPlace], ir: bool) -> usize
+    ensures { result ≡ count_by (λ (at : RunPlace). beq at.ir ir) places.now }
+{
+    places.iter().filter(|at| at.ir == ir).count()
 }
 
 // Whether a clock with TMS 0 leaves the controllers in this state.
@@ -96,6 +108,8 @@ impl Runs {
         ensures none_lost { IfOk result (λ r. r.lost ≡ false) }
         ensures clocks { IfOk result (λ r. r.heard.clocks ≡ 0) }
         ensures usec { IfOk result (λ r. r.heard.usec ≡ 0) }
+        ensures ir_scans { IfOk result (λ r. r.heard.ir_scans ≡ 0) }
+        ensures dr_scans { IfOk result (λ r. r.heard.dr_scans ≡ 0) }
     {
         let ended = Vec::with_capacity(alloc, runs)?;
         let Ok(bits_in) = Bits::zeros(alloc, bits) else {
@@ -116,6 +130,8 @@ impl Runs {
             free: 0,
             clocks: 0,
             usec: 0,
+            ir_scans: 0,
+            dr_scans: 0,
             lost: false,
         })
     }
@@ -159,6 +175,39 @@ impl Runs {
         ensures few { result < 2 ^ 63 }
     {
         self.usec
+    }
+
+    /// The scans of the instruction registers that were counted.
+    pub fn ir_scans(&self) -> u64
+        ensures value { result ≡ self.now.heard.ir_scans }
+        ensures few { result < 2 ^ 63 }
+    {
+        self.ir_scans
+    }
+
+    /// The scans of the data registers that were counted.
+    pub fn dr_scans(&self) -> u64
+        ensures value { result ≡ self.now.heard.dr_scans }
+        ensures few { result < 2 ^ 63 }
+    {
+        self.dr_scans
+    }
+
+    /// Counts the runs that are over as scans, if they are such.
+    pub fn count_scans(&mut self, scans: bool)
+        ensures { Becomes self.old (scans_counted scans self.old.heard) self.new }
+    {
+        if !scans {
+            return;
+        }
+        let ir = count_of(&self.ended, true) as u64;
+        let dr = count_of(&self.ended, false) as u64;
+        if ir > MOST - self.ir_scans || dr > MOST - self.dr_scans {
+            self.lost = true;
+            return;
+        }
+        self.ir_scans += ir;
+        self.dr_scans += dr;
     }
 
     // Adds the lowest n bits of two numbers to the run that goes on, or begins one with them.

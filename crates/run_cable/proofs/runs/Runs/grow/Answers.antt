@@ -29,6 +29,6 @@ returns-clause-grown c = λ e.
     ]) in
     record {
       none_lost = ap (λ (k : Kept). k.lost) (sym c.self.view_is) ∙ e;
-      heard = ap₂ (λ (es : List ShiftRun) (g : ShiftRun). let h : Heard = record { tap = r.tap; ended = es; going = Some g; clocks = r.clocks; usec = r.usec } in h) ended going
+      heard = ap₂ (λ (es : List ShiftRun) (g : ShiftRun). let h : Heard = record { tap = r.tap; ended = es; going = Some g; clocks = r.clocks; usec = r.usec; ir_scans = r.ir_scans; dr_scans = r.dr_scans } in h) ended going
           ∙ ap (λ (k : Kept). grown_by ir w v k.heard) c.self.view_is;
     }
