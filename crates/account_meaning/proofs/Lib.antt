@@ -1,2 +1,3 @@
 pub mod SourceTurns
+pub mod ScanSums
 pub mod SourceTexts

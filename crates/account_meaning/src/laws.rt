@@ -1,5 +1,5 @@
 //! Laws of the definitions.
-ghost use Rattle.std.specs.Prelude.{◌≡◌, ◌≤◌, ◌<◌, ◌^◌, ◌⊎◌, ℕ, List, flat_map, length};
+ghost use Rattle.std.specs.Prelude.{◌≡◌, ◌≤◌, ◌<◌, ◌^◌, ◌⊎◌, ℕ, Bool, List, flat_map, length};
 ghost use Rattle.stapl_lexer.specs.declared.piece.Piece.{Piece};
 ghost use Rattle.stapl_lexer.specs.Pieces.{IsCut};
 ghost use Rattle.stapl_syntax.specs.Trees.{StmtTree};
@@ -12,9 +12,10 @@ ghost use Rattle.stapl_code.specs.declared.raw.CodeLists.{CodeLists};
 ghost use Rattle.stapl_codegen.specs.Generated.{IsCodeOf};
 ghost use Rattle.stapl_machine.specs.Machines.{play_of};
 ghost use Rattle.scan_accounts.specs.MadeTurns.{MadeTurn, made_play};
+ghost use Rattle.scan_accounts.specs.Accounts.{passages, scans_among};
 ghost use Rattle.scan_accounts.specs.AccountTexts.{turn_lines};
 ghost use Rattle.account_lines.specs.declared.lines.TurnPlace.{TurnPlace};
-ghost use Rattle.account_plays.specs.AccountedRuns.{turns_text, AreNextCodeTurns, HasStopped};
+ghost use Rattle.account_plays.specs.AccountedRuns.{turns_text, turns_scans, AreNextCodeTurns, HasStopped};
 ghost use Rattle.turn_table.specs.Tables.{IsTurnTable};
 ghost use Rattle.account_meaning.specs.Tables.{TellsScans};
 
@@ -44,3 +45,12 @@ pub fn the_text_of_a_code_is_that_of_its_program()
 {
     a_turn_has_runs_or_lines();
 }
+
+/// So are the scans among them, of the instruction registers and of the data registers.
+pub fn the_scans_of_a_code_are_those_of_its_program()
+    ensures { (program : Played) (code : CodeLists) (table : List TurnPlace) (chosen : List ℕ) (n : ℕ) (base : BaseLengths)
+        (far : FarEnd) (turns : List MadeTurn) (ir : Bool) → IsCodeOf program code → length code.instrs < 2 ^ 32 →
+        TellsScans program table → AreNextCodeTurns code table (λ m. play_of code chosen m (chain_reset base far)) turns →
+        length turns ≤ n → (length turns ≡ n) ⊎ HasStopped (play_of code chosen (length turns) (chain_reset base far)) →
+        turns_scans table ir turns ≡ scans_among ir (passages (made_play program chosen n base far)) }
+{}
