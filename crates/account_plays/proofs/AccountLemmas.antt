@@ -1,7 +1,7 @@
 -- On the account of a turn.
 use Rattle.std.specs.Prelude.{count_by}
 use Rattle.std.specs.Bool.{beq}
-use Rattle.std.proofs.Common.{◌≡◌, ◌+◌, ℕ, true, ap₂, arith, false, Bool, List, [], ◌++◌, Option, Some, None, refl, sym, ap, subst, ◌∙◌}
+use Rattle.std.proofs.Common.{◌≡◌, ◌+◌, true, ap₂, false, Bool, List, [], ◌++◌, Some, None, refl, sym, ap, subst, ◌∙◌}
 use Rattle.std.proofs.lemmas.List.{append-nil}
 use Rattle.tap_states.specs.declared.Tap.{Tap}
 use Rattle.tool_io.specs.declared.lines.Lines.{Lines}
@@ -11,9 +11,8 @@ use Rattle.tool_io.proofs.PutLemmas.{put_then, put_then_front, puts_same, front_
 use Rattle.dev_card.specs.Padding.{BaseLengths}
 use Rattle.scan_paths.specs.declared.cable.Cable.{Ghosts as CableOf}
 use Rattle.stapl_meaning.specs.declared.events.Event.{Event}
-use Rattle.stapl_meaning.specs.declared.events.Ending.{Ending}
 use Rattle.stapl_meaning.specs.Deeds.{Chain}
-use Rattle.stapl_meaning.specs.States.{State, Happened, with_events}
+use Rattle.stapl_meaning.specs.States.{State, Happened}
 use Rattle.stapl_meaning.specs.Texts.{events_text}
 use Rattle.stapl_instructions.specs.declared.control.Went.{Went}
 use Rattle.stapl_instructions.specs.declared.control.Went.TheVariants as went

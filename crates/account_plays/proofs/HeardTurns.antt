@@ -1,8 +1,8 @@
 -- On what was heard of a turn.
-use Rattle.std.proofs.Common.{◌≡◌, ℕ, suc, ◌+◌, List, [], ◌∷◌, ◌++◌, length, None, refl, sym, ap, ◌∙◌, arith}
+use Rattle.std.proofs.Common.{◌≡◌, ℕ, suc, ◌+◌, List, [], ◌∷◌, ◌++◌, length, refl, ap, ◌∙◌, arith}
 use Rattle.tap_states.specs.declared.Tap.{Tap}
 use Rattle.dev_card.specs.Board.{Clock}
-use Rattle.scan_paths.specs.Cables.{Signal, clocks_in, Pulses, Waits}
+use Rattle.scan_paths.specs.Cables.{clocks_in, Waits}
 use Rattle.stapl_meaning.specs.declared.events.Event.{Event}
 use Rattle.stapl_meaning.specs.declared.events.Event.TheVariants.{Print, Export, Usec, Hertz}
 use Rattle.stapl_meaning.specs.declared.events.Event.TheVariants as events
@@ -31,7 +31,7 @@ turn_runs at h es = runs_are (signals_of es) (begun at h) refl refl ∙ ap (shif
 pub plus_none : (n : ℕ) → n ≡ n + 0
 plus_none n = omega arith
 
-one_more : (n m : ℕ) → (n + 1) + m ≡ n + suc m
+pub one_more : (n m : ℕ) → (n + 1) + m ≡ n + suc m
 one_more n m = omega arith
 
 both_more : (n m k : ℕ) → (n + m) + k ≡ n + (m + k)

@@ -4,3 +4,4 @@ pub mod HeardTurns
 pub mod AccountLemmas
 pub mod RunAccounts
 pub mod WholeRuns
+pub mod FirstLemmas

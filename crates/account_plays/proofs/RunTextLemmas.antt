@@ -7,7 +7,7 @@ use Rattle.bit_list.specs.Ranges.{taken}
 use Rattle.bit_list.proofs.Splices.{length_taken, taken_of_first}
 use Rattle.dev_card.specs.Padding.{BaseLengths, base_pre_of, base_post_of}
 use Rattle.scan_accounts.specs.ShiftRuns.{ShiftRun}
-use Rattle.scan_accounts.specs.Accounts.{inner_bits, said_run}
+use Rattle.scan_accounts.specs.Accounts.{inner_bits}
 use Rattle.account_lines.specs.declared.lines.TurnPlace.{TurnPlace}
 use Rattle.run_cable.specs.declared.run_place.RunPlace.{RunPlace}
 use Rattle.run_cable.specs.KeptRuns.{run_at}

@@ -3,7 +3,6 @@ use Rattle.std.proofs.Common.{◌≡◌, ℕ, Bool, false, List, [], ◌++◌, s
 use Rattle.std.proofs.lemmas.List.{append-nil}
 use Rattle.tap_states.specs.declared.Tap.{Tap}
 use Rattle.dev_card.specs.Board.{Clock, tdos}
-use Rattle.dev_card.specs.FarEnds.{far_end}
 use Rattle.dev_card.specs.Padding.{BaseLengths}
 use Rattle.scan_paths.specs.declared.cable.Cable.{Ghosts as CableOf}
 use Rattle.scan_paths.specs.Cables.{Signal, clocks_in}
@@ -16,7 +15,7 @@ use Rattle.written_cable.specs.declared.paper.Paper.{Ghosts as PaperOf}
 use Rattle.written_cable.specs.declared.pin_cable.PinCable.{PinCable}
 use Rattle.written_cable.specs.Papers.{Puts, PutsFront}
 use Rattle.written_cable.specs.Signals.{signals_of}
-use Rattle.written_cable.specs.Pins.{cable_of, lines_of, tap_of, base_of, digits_of, writes_pins, port_chain}
+use Rattle.written_cable.specs.Pins.{cable_of, lines_of, tap_of, base_of, digits_of, writes_pins}
 use Rattle.written_cable.specs.Ports.{chain_before, Does, DoesFront, IsOpenPort}
 use Rattle.written_cable.proofs.DeedLemmas.{whole_line}
 use Rattle.run_cable.specs.declared.run_cable.RunCable.{RunCable}

@@ -1,5 +1,5 @@
 -- On a whole run of a code, by its prologue and its turns.
-use Rattle.std.proofs.Common.{◌≡◌, ◌⊎◌, inl, inr, ℕ, suc, Bool, true, false, List, [], ◌∷◌, ◌++◌, length, Option, Some, None, Err, refl, sym, ap, subst, ◌∙◌, append_assoc, arith, ◌≤◌}
+use Rattle.std.proofs.Common.{◌≡◌, inl, inr, ℕ, suc, Bool, true, false, List, [], ◌∷◌, ◌++◌, length, Option, Some, None, Err, refl, sym, ap, subst, ◌∙◌, append_assoc, arith}
 use Rattle.std.proofs.lemmas.List.{append-nil}
 use Rattle.tap_states.specs.declared.Tap.{Tap}
 use Rattle.tap_states.specs.declared.Tap.TheVariants.{Reset}
@@ -14,7 +14,7 @@ use Rattle.scan_paths.specs.Cables.{Signal, clocks_in}
 use Rattle.stapl_meaning.specs.declared.events.Event.{Event}
 use Rattle.stapl_meaning.specs.declared.events.Ending.{Ending}
 use Rattle.stapl_meaning.specs.Deeds.{Chain}
-use Rattle.stapl_meaning.specs.States.{State, Happened, Lacks, with_events, happens, next_chosen}
+use Rattle.stapl_meaning.specs.States.{State, Happened, with_events, happens, next_chosen}
 use Rattle.stapl_meaning.specs.Plays.{Run, after, goes_on, ending_of}
 use Rattle.stapl_meaning.specs.Texts.{events_text}
 use Rattle.stapl_code.specs.declared.raw.CodeLists.{CodeLists}
@@ -27,7 +27,7 @@ use Rattle.stapl_instructions.specs.declared.control.Went.{Went}
 use Rattle.stapl_instructions.specs.declared.control.Went.TheVariants as went
 use Rattle.stapl_instructions.specs.Moves.{led_to, led_on}
 use Rattle.stapl_machine.specs.Runs.{run_of, play_from}
-use Rattle.stapl_machine.proofs.RunLemmas.{goes_after, at_first, started, begun_by, play_is, over_lacks}
+use Rattle.stapl_machine.proofs.RunLemmas.{goes_after, at_first, started, play_is, over_lacks}
 use Rattle.written_cable.specs.OnPaper.{lines_paper}
 use Rattle.written_cable.specs.PaperLaws.{puts_back, front_back}
 use Rattle.written_cable.specs.Signals.{signals_of}
@@ -40,9 +40,9 @@ use Rattle.run_cable.specs.KeptRuns.{Kept, IsKnown, begun}
 use Rattle.account_plays.specs.declared.failures.AccountFailed.{AccountFailed}
 use Rattle.account_plays.specs.declared.failures.AccountFailed.TheVariants.{Write, Lost}
 use Rattle.account_plays.specs.declared.turns.Part.TheVariants.{Prologue}
-use Rattle.account_plays.specs.AccountTurns.{part_at, chain_of, chain_heard, begun_at, TurnsFront, TurnsKept}
+use Rattle.account_plays.specs.AccountTurns.{part_at, chain_heard, begun_at, TurnsFront, TurnsKept}
 use Rattle.account_plays.specs.AccountedTurns.{SumsGoOn}
-use Rattle.account_plays.specs.AccountedRuns.{turns_text, turns_scans, TurnsGoOn, IsNextCodeTurn, AreNextCodeTurns, HasStopped, PlayedTurns, PlayedFront, HasPlayedTurns, PlayedRun, PlayedRunFront, HasPlayedRun}
+use Rattle.account_plays.specs.AccountedRuns.{turns_text, turns_scans, TurnsGoOn, IsNextCodeTurn, AreNextCodeTurns, HasStopped, PlayedTurns, HasPlayedTurns, PlayedRun, PlayedRunFront, HasPlayedRun}
 use Rattle.run_cable.proofs.HeardLemmas.{scans_stay}
 use Rattle.account_plays.proofs.HeardTurns.{plus_none, clocks_go_on, usec_goes_on, happened_after}
 use Rattle.account_plays.proofs.RunAccounts.{heard_both, one_turn, over_ends, over_without, over_stops, from_none, sums_both}

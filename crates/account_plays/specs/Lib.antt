@@ -2,3 +2,4 @@ pub mod AccountTurns
 pub mod RunTexts
 pub mod AccountedTurns
 pub mod AccountedRuns
+pub mod FirstClocks

@@ -4,6 +4,7 @@
 mod accounting;
 mod failures;
 mod playing;
+mod resetting;
 mod run_lines;
 mod running;
 mod turns;
@@ -11,5 +12,6 @@ mod turns;
 pub use accounting::account_turn;
 pub use failures::AccountFailed;
 pub use playing::account_run;
+pub use resetting::account_reset;
 pub use running::account_turns;
 pub use turns::{Course, Turned};

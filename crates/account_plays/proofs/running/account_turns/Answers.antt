@@ -1,4 +1,4 @@
-use Rattle.std.proofs.Common.{◌≡◌, [], sym, arith, rules}
+use Rattle.std.proofs.Common.{arith, rules}
 use Rattle.scan_paths.specs.Scans.{lengths_of}
 use Rattle.machine_memory.specs.Acts.{state_of}
 use Rattle.stapl_instructions.specs.Moves.{led_on}
