@@ -7,9 +7,10 @@ use Rattle.std.specs.Fmt.{digits}
 use Rattle.stapl_meaning.specs.declared.events.Ending.TheVariants.{Exit}
 use Rattle.scan_accounts.specs.MadeTurns.{does_scan}
 use Rattle.scan_accounts.specs.Accounts.{passages_of}
-use Rattle.scan_accounts.specs.AccountTexts.{account_text, passage_line}
+use Rattle.scan_accounts.specs.AccountTexts.{account_line, account_text, passage_line}
 use Rattle.scan_accounts.specs.PinRuns.{runs_of_pins}
-use Rattle.scan_accounts.specs.AccountExamples.{example_run, instruction_run, one_clock_run, padded_run, example_text, scanning_turn, walking_turn, example_play}
+use Rattle.scan_accounts.specs.Rooms.{states_in}
+use Rattle.scan_accounts.specs.AccountExamples.{example_run, instruction_run, one_clock_run, padded_run, example_text, scanning_turn, walking_turn, example_play, full_account}
 
 pub two_scans : runs_of_pins (codes "C 5555515112141551551112241551\nE exit 0\n") ≡ example_run ∷ instruction_run ∷ []
 two_scans = refl
@@ -53,3 +54,10 @@ scans_under_if register e count source = refl
 
 pub states_do_not : (e : ExprTree) (states : List ℕ) → does_scan (if_then e (state_list states)) ≡ false
 states_do_not e states = refl
+
+pub states_listed : (e : ExprTree) → states_in (if_then e (state_list (1 ∷ 4 ∷ 1 ∷ []))) ≡ 3
+states_listed e = refl
+
+pub full_sums : account_line full_account ≡ codes "S turns 1 clocks 9223372036854775807 usec 9223372036854775807 irscans 0 drscans 2\n"
+unfolding digits
+full_sums = refl

@@ -380,7 +380,7 @@ said_runs_fit program typed chosen n base far =
     all_passages_fit base (made_play program chosen n base far).turns (turns_fit program typed base chosen n far)
 
 -- with their base padding
-abbrev WholeFits : BaseLengths → ShiftRun → Type 0
+abbrev pub WholeFits : BaseLengths → ShiftRun → Type 0
 WholeFits base run = length run.bits_in ≤ most_bits true + (base_pre_of run.ir base + base_post_of run.ir base)
 
 whole_fits : (base : BaseLengths) (f : Bool) (run : ShiftRun) → RunFits base f run → WholeFits base run

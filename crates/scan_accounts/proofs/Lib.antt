@@ -10,6 +10,9 @@ pub mod OtherLines
 pub mod StableStarts
 pub mod RunsOrLines
 pub mod FittingRuns
+pub mod ShiftCounts
+pub mod OnceTurns
+pub mod TurnRooms
 pub mod Examples
 pub mod ScanRuns
 pub mod ScanPassages

@@ -142,7 +142,7 @@ then_has P R (Known x) go p q = q x p
 then_has P R (Faults k) go p q = tt
 then_has P R Stuck go p q = tt
 
-any_has : {A B : Type 0} (R : B → Type 0) (g : Got A) (go : A → Got B) → ((x : A) → Has R (go x)) →
+pub any_has : {A B : Type 0} (R : B → Type 0) (g : Got A) (go : A → Got B) → ((x : A) → Has R (go x)) →
     Has R (then_get g go)
 any_has R (Known x) go q = q x
 any_has R (Faults k) go q = tt

@@ -212,7 +212,7 @@ deeds_have_no_run (Scans scan ∷ ds) k e h = absurd h
 abbrev pub resting : RowRule
 resting = record plain_rows { DeedsOk = RestStable; JobOk = NoScan; none_ok = tt; both_ok = both_rest }
 
-turn_has_no_run : (t : Turned) (k : Chain) → is_stable_state k.tap ≡ true → TurnOk resting t →
+pub turn_has_no_run : (t : Turned) (k : Chain) → is_stable_state k.tap ≡ true → TurnOk resting t →
     shift_runs k.tap (clocks_among (happened_events (happens k t))) ≡ []
 turn_has_no_run (Leads ds place s) k e h = deeds_have_no_run ds k e h.0
 turn_has_no_run (Over ds ending s) k e h = deeds_have_no_run ds k e h
@@ -221,7 +221,7 @@ turn_has_no_run (Scanning ds job rest) k e h = absurd h.1
 turn_has_no_run (NoTurn ds) k e h = deeds_have_no_run ds k e h
 
 -- of a statement that is no STATE and does not scan
-resting_so : (moves scans : Bool) → moves ≡ false → scans ≡ false → StatementRule resting moves scans
+pub resting_so : (moves scans : Bool) → moves ≡ false → scans ≡ false → StatementRule resting moves scans
 resting_so moves scans p q = record {
   says_ok = λ m n event ds e h. (e, h);
   goes_ok = λ m n to ds e h. (e, h);

@@ -36,7 +36,7 @@ module _ (w : RowRule) where
   of_preceded before (Scanning ds job rest) p h = (w.both_ok before ds p h.0, h.1, h.2)
   of_preceded before (NoTurn ds) p h = w.both_ok before ds p h
 
-  of_piece : (piece : ℕ) (t : Turned) → TurnOk t → TurnOk (turn_of_piece piece t)
+  pub of_piece : (piece : ℕ) (t : Turned) → TurnOk t → TurnOk (turn_of_piece piece t)
   of_piece piece (Leads ds place s) h = h
   of_piece piece (Over ds ending s) h = h
   of_piece piece (Broken ds f s) h = h

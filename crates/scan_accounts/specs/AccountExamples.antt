@@ -8,6 +8,7 @@ use Rattle.stapl_meaning.specs.Deeds.{pulses}
 use Rattle.pin_lines.specs.PinLines.{clocks_of_pins}
 use Rattle.scan_accounts.specs.ShiftRuns.{ShiftRun}
 use Rattle.scan_accounts.specs.MadeTurns.{MadeTurn, MadePlay}
+use Rattle.scan_accounts.specs.Accounts.{Account}
 use Rattle.scan_accounts.specs.AccountTexts.{CutText}
 
 -- clocks by their digits: 4 for TMS, 2 for TDI, 1 for TDO
@@ -58,3 +59,8 @@ example_play = record {
   first = clock_events (codes "555551");
   turns = scanning_turn ∷ walking_turn ∷ waiting_turn ∷ [];
 }
+
+-- sums of which one is the largest number that is written, and one is larger
+abbrev pub full_account : Account
+full_account =
+    record { turns = 1; clocks = 9223372036854775807; usec = 9223372036854775808; ir_scans = 0; dr_scans = 2 }

@@ -1,5 +1,5 @@
 -- The text of a play with its account. The format is this profile's.
-use Rattle.std.specs.Prelude.{ℕ, ◌+◌, pos, Bool, true, false, List, [], ◌∷◌, ◌++◌, length, codes, flat_map}
+use Rattle.std.specs.Prelude.{ℕ, ◌+◌, min, pos, Bool, true, false, List, [], ◌∷◌, ◌++◌, length, codes, flat_map}
 use Rattle.bit_list.specs.Hexadecimal.{all_hex_digits}
 use Rattle.tool_io.specs.Texts.{labelled, number_line}
 use Rattle.stapl_lexer.specs.declared.piece.Piece.{Piece}
@@ -39,12 +39,33 @@ passage_line cut p = run_line (p.place + 1) (line_of_index cut.text cut.pieces p
 abbrev pub turn_lines : CutText → BaseLengths → MadeTurn → List ℕ
 turn_lines cut base t = flat_map (passage_line cut) (passages_of base t) ++ events_text false [] t.events
 
--- the line of the sums
-abbrev pub account_line : Account → List ℕ
-account_line a =
+-- The largest number that a sum of clocks, of microseconds or of scans is written as. A larger sum is written as this
+-- one.
+abbrev pub most_counted : ℕ
+most_counted = 9223372036854775807
+
+abbrev pub counted : ℕ → ℕ
+counted n = min n most_counted
+
+-- the sums as they are written
+abbrev pub as_written : Account → Account
+as_written a = record {
+  turns = a.turns;
+  clocks = counted a.clocks;
+  usec = counted a.usec;
+  ir_scans = counted a.ir_scans;
+  dr_scans = counted a.dr_scans;
+}
+
+-- the line of these numbers, and that of the sums
+abbrev pub sums_line : Account → List ℕ
+sums_line a =
     labelled (codes "S turns ") (pos a.turns) ++ labelled (codes " clocks ") (pos a.clocks)
     ++ labelled (codes " usec ") (pos a.usec) ++ labelled (codes " irscans ") (pos a.ir_scans)
     ++ number_line (codes " drscans ") (pos a.dr_scans)
+
+abbrev pub account_line : Account → List ℕ
+account_line a = sums_line (as_written a)
 
 -- the whole text of a play that has ended
 abbrev pub account_text : CutText → MadePlay → Ending → List ℕ

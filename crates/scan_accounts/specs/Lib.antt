@@ -7,3 +7,4 @@ pub mod AccountExamples
 pub mod SameAccounts
 pub mod LongestRuns
 pub mod TurnByTurn
+pub mod Rooms

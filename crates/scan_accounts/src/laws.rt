@@ -26,11 +26,12 @@ ghost use Rattle.scan_accounts.specs.LongestRuns.{AreLongestRuns};
 ghost use Rattle.scan_accounts.specs.MadeTurns.{does_scan, MadeTurn, made_play, made_events, clocks_among};
 ghost use Rattle.scan_accounts.specs.TurnByTurn.{AreNextTurns};
 ghost use Rattle.scan_accounts.specs.Accounts.{Passage, passages, passages_of, most_bits, account_of, HasScanRun};
+ghost use Rattle.scan_accounts.specs.Rooms.{FitIn, states_in, most_states, turn_bits, turn_runs};
 ghost use Rattle.scan_accounts.specs.SameAccounts.{IsSameAccount};
-ghost use Rattle.scan_accounts.specs.AccountTexts.{CutText, account_text, passage_line, turn_lines};
+ghost use Rattle.scan_accounts.specs.AccountTexts.{CutText, account_line, account_text, passage_line, turn_lines};
 ghost use Rattle.scan_accounts.specs.PinRuns.{runs_of_pins};
 ghost use Rattle.scan_accounts.specs.AccountExamples.{example_run, instruction_run, one_clock_run, padded_run};
-ghost use Rattle.scan_accounts.specs.AccountExamples.{example_text, scanning_turn, walking_turn, example_play};
+ghost use Rattle.scan_accounts.specs.AccountExamples.{example_text, scanning_turn, walking_turn, example_play, full_account};
 
 use stapl_meaning::laws::programs_are_typed;
 
@@ -93,6 +94,18 @@ pub fn runs_fit_the_room()
     programs_are_typed();
 }
 
+/// The runs of one turn fit into a room that the program and the base padding alone tell. They have no more bits
+/// together than a scan may have with all its padding, and one for each state of the longest STATE more; and there is
+/// one run more than such states at most.
+pub fn turns_fit_the_room()
+    ensures { (text : List ℕ) (program : List StmtTree) (chosen : List ℕ) (n : ℕ) (base : BaseLengths) (far : FarEnd) →
+        IsProgram text program → All (λ (t : MadeTurn). FitIn (turn_bits base (most_states program))
+        (turn_runs (most_states program)) (shift_runs t.from (clocks_among t.events)))
+        (made_play (as_played program) chosen n base far).turns }
+{
+    programs_are_typed();
+}
+
 /// What is said of the runs of a play without base padding are the runs of its text with pins, in their order, whatever
 /// answers its clocks. With any base padding, the account has as many clocks as that text.
 pub fn the_account_of_a_play_is_that_of_its_pins()
@@ -145,7 +158,8 @@ pub fn examples_of_runs()
 {}
 
 /// Base padding is taken off the run of a turn that scans, and off no other. The line of a run stands before what else
-/// its turn writes, and the sums before the ending. An IF over a scan scans, and a STATE does not.
+/// its turn writes, and the sums before the ending. An IF over a scan scans, and a STATE does not, whose states are
+/// counted. A sum that is larger than the largest number is written as that.
 pub fn examples_of_accounts()
     ensures scan { passages_of example_play.base scanning_turn
         ≡ record { place = 0; scan = true; run = example_run } ∷ [] }
@@ -156,9 +170,12 @@ pub fn examples_of_accounts()
     ensures under_if { (register : Register) (e count : ExprTree) (source : ArrayTree) →
         does_scan (if_then e (if_then e (scan register count source None None))) ≡ true }
     ensures states { (e : ExprTree) (states : List ℕ) → does_scan (if_then e (state_list states)) ≡ false }
+    ensures listed { (e : ExprTree) → states_in (if_then e (state_list (1 ∷ 4 ∷ 1 ∷ []))) ≡ 3 }
     ensures walk { passages_of example_play.base walking_turn
         ≡ record { place = 1; scan = false; run = one_clock_run } ∷ [] }
     ensures text { account_text example_text example_play (Exit (pos 0))
         ≡ codes "S 1 line 7 DRSCAN 3 in 1 out 2\nS 2 line 8 WALK DR 1 in 0 out 0\nP A\nW 7\n"
         ++ codes "S turns 3 clocks 26 usec 7 irscans 0 drscans 1\nE exit 0\n" }
+    ensures sums { account_line full_account
+        ≡ codes "S turns 1 clocks 9223372036854775807 usec 9223372036854775807 irscans 0 drscans 2\n" }
 {}
