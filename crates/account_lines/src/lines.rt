@@ -4,7 +4,7 @@ ghost use Rattle.bit_list.specs.Hexadecimal.{all_hex_digits};
 ghost use Rattle.tool_io.specs.Lines.{IsWhole, HasPut};
 ghost use Rattle.tool_io.specs.Texts.{labelled, number_line};
 ghost use Rattle.bit_list.specs.Ranges.{taken};
-ghost use Rattle.scan_accounts.specs.AccountTexts.{passage_name, account_line};
+ghost use Rattle.scan_accounts.specs.AccountTexts.{passage_name, sums_line};
 ghost use Rattle.run_cable.specs.KeptRuns.{run_at};
 ghost use Rattle.account_lines.specs.RunLines.{turn_run_line, account_in};
 
@@ -118,7 +118,7 @@ pub fn put_sums<K: Sink>(out: &mut Lines<K>, sums: Sums) -> Result<(), Failed>
     requires usec { sums.usec < 2 ^ 63 }
     requires ir_scans { sums.ir_scans < 2 ^ 63 }
     requires dr_scans { sums.dr_scans < 2 ^ 63 }
-    ensures { HasPut K.Sink out.old (account_line (account_in sums)) out.new result }
+    ensures { HasPut K.Sink out.old (sums_line (account_in sums)) out.new result }
 {
     put_count(out, b"S turns ", sums.turns)?;
     put_size(out, b" clocks ", sums.clocks)?;
