@@ -6,5 +6,5 @@ mod over_cable;
 mod playing;
 
 pub use endings::put_ending;
-pub use over_cable::base_of;
-pub use playing::{Task, choose_asked, has_place, play_code};
+pub use over_cable::{base_of, failed};
+pub use playing::{Task, choose_asked, has_place, play_code, status_of};

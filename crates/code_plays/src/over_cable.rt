@@ -21,8 +21,8 @@ use tool_io::{Failed, Lines, Sink};
 use valid_codes::Code;
 use written_cable::Trouble;
 
-// The failure of the lines that a trouble is which is none of the cable.
-fn failed(trouble: Trouble) -> Failed
+/// The failure of the lines that a trouble is which is none of the cable.
+pub fn failed(trouble: Trouble) -> Failed
     requires { trouble ≢ troubles.CableFault }
     ensures { trouble ≡ troubles.WriteFault }
 {

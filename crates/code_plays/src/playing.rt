@@ -165,8 +165,8 @@ fn put_play<K: Sink>(
     Ok(ending)
 }
 
-// The status of a play that ends so.
-fn status_of(ending: Ending) -> Status
+/// The status of a play that ends so.
+pub fn status_of(ending: Ending) -> Status
     ensures { result ≡ done_with ending }
 {
     match ending {

@@ -9,8 +9,9 @@ use Rattle.std.proofs.lemmas.Slice.Eq.{bytes_eq-Decides}
 use Rattle.stapl_syntax.specs.declared.statement.ItemChoice.{ItemChoice}
 use Rattle.stapl_syntax.specs.declared.statement.ItemChoice.TheVariants.{Optional, Recommended}
 use Rattle.stapl_syntax.specs.Trees.{ItemTree, BodyTree, action, procedure, StmtTree}
-use Rattle.stapl_meaning.specs.Choices.{is_one_of, runs_by, item_runs, item_procedure, procedures_run, is_choice, are_choices, bad_choice, chosen, items_before, items_from, choice_among, choice_of}
-use Rattle.stapl_meaning.specs.Scopes.{Played, procedures_in, procedure_before, procedure_number}
+use Rattle.stapl_syntax.specs.Programs.{IsProgram}
+use Rattle.stapl_meaning.specs.Choices.{Choice, is_one_of, runs_by, item_runs, item_procedure, procedures_run, is_choice, are_choices, bad_choice, chosen, items_before, items_from, choice_among, choice_of}
+use Rattle.stapl_meaning.specs.Scopes.{Played, as_played, procedures_in, procedure_before, procedure_number}
 use Rattle.stapl_meaning.specs.Typed.{NamesProcedure, NamesProcedures, IsTyped}
 use Rattle.stapl_code.specs.declared.raw.ProcDef.{ProcDef}
 use Rattle.stapl_code.specs.declared.raw.ItemDef.{ItemDef}
@@ -19,6 +20,7 @@ use Rattle.stapl_code.specs.declared.raw.CodeLists.{CodeLists}
 use Rattle.stapl_codegen.specs.Emit.{start_of, procedure_def, procedures_from, procedures_of, choice_flag, item_def, action_def, actions_from}
 use Rattle.stapl_codegen.specs.Generated.{IsCodeOf}
 use Rattle.stapl_player.specs.Choices.{optional, recommended, bears, bears_one, runs, running, are_offered, choice_in, code_choice}
+use Rattle.play_words.specs.declared.requests.PlayRequest.{PlayRequest}
 
 -- The procedure of the number of a name bears that name.
 
@@ -163,3 +165,11 @@ pub same_choice : {program : Played} {code : CodeLists} (name : List ℕ) (asked
     code_choice code name asked skipped ≡ choice_of program name asked skipped
 same_choice {program = program} name asked skipped typed is =
     ap (λ (lists : CodeLists). code_choice lists name asked skipped) is.lists ∙ actions_same program asked skipped name program.pieces typed.items
+
+-- What the choice in the code of a program comes to, it comes to in the program.
+pub choice_in_program : {bytes : List ℕ} {program : List StmtTree} {code : CodeLists} {choice : Choice} (request : PlayRequest) →
+    ((text : List ℕ) (statements : List StmtTree) → IsProgram text statements → IsTyped (as_played statements)) → IsProgram bytes program →
+    IsCodeOf (as_played program) code → code_choice code request.action request.todo request.skip ≡ choice →
+    choice_of (as_played program) request.action request.todo request.skip ≡ choice
+choice_in_program {bytes = bytes} {program = program} request typed is code e =
+    sym (same_choice request.action request.todo request.skip (typed bytes program is) code) ∙ e

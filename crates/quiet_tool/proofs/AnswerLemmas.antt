@@ -9,12 +9,8 @@ use Rattle.stapl_syntax.specs.declared.statement.Stmt.{Stmt}
 use Rattle.stapl_syntax.specs.Trees.{StmtTree, body_tree, stmt_tree}
 use Rattle.stapl_syntax.specs.Programs.{IsProgram}
 use Rattle.stapl_meaning.specs.declared.events.Ending.{Ending}
-use Rattle.stapl_meaning.specs.Choices.{Choice, choice_of}
-use Rattle.stapl_meaning.specs.Scopes.{Played, as_played}
-use Rattle.stapl_meaning.specs.Typed.{IsTyped}
-use Rattle.stapl_code.specs.declared.raw.CodeLists.{CodeLists}
-use Rattle.stapl_codegen.specs.Generated.{IsCodeOf}
-use Rattle.stapl_player.specs.Choices.{code_choice}
+use Rattle.stapl_meaning.specs.Choices.{Choice}
+use Rattle.stapl_meaning.specs.Scopes.{Played}
 use Rattle.dev_card.specs.declared.desc.Desc.{Desc}
 use Rattle.padded_plays.specs.declared.unquiet.Unquiet.{Unquiet}
 use Rattle.quiet_runs.specs.declared.first_turns.Verdict.{Verdict}
@@ -22,7 +18,6 @@ use Rattle.quiet_runs.specs.declared.first_turns.Verdict.TheVariants as verdicts
 use Rattle.quiet_runs.specs.Verdicts.{IsQuietVerdict}
 use Rattle.named_files.specs.Boards.{HasBoard}
 use Rattle.play_words.specs.declared.requests.PlayRequest.{PlayRequest}
-use Rattle.play_tool.proofs.ChoiceLemmas.{same_choice}
 use Rattle.quiet_tool.specs.declared.status.QuietStatus.{QuietStatus}
 use Rattle.quiet_tool.specs.declared.status.QuietStatus.TheVariants.{Quiet, NotQuiet, Refused, BoardRefused, NoAction, BadChoice, BadPlace, Usage}
 use Rattle.quiet_tool.specs.declared.words.Actions.{Actions}
@@ -60,14 +55,6 @@ module _ {bytes : List ℕ} {program : Played} {choice : Choice} {placed : Bool}
       ChoiceAnswer bytes program choice placed n run a s
   answer_is {a = a} {t = t} e f x =
       subst (λ (z : QuietStatus). ChoiceAnswer bytes program choice placed n run a z) (sym f) (subst (λ (z : List ℕ). ChoiceAnswer bytes program choice placed n run z t) (sym e) x)
-
--- What the choice in the code of a program comes to, it comes to in the program.
-pub choice_in_program : {bytes : List ℕ} {program : List StmtTree} {code : CodeLists} {choice : Choice} (request : PlayRequest) →
-    ((text : List ℕ) (statements : List StmtTree) → IsProgram text statements → IsTyped (as_played statements)) → IsProgram bytes program →
-    IsCodeOf (as_played program) code → code_choice code request.action request.todo request.skip ≡ choice →
-    choice_of (as_played program) request.action request.todo request.skip ≡ choice
-choice_in_program {bytes = bytes} {program = program} request typed is code e =
-    sym (same_choice request.action request.todo request.skip (typed bytes program is) code) ∙ e
 
 -- the actions of statements, by their bodies
 pub actions_in : (statements : List Stmt) → filter_map (λ (st : Stmt). action_name (body_tree st.body)) statements ≡ actions_of (map stmt_tree statements)

@@ -1,8 +1,9 @@
 use Rattle.std.proofs.Common.{sym, ap, ◌∙◌, Err}
 use Rattle.stapl_meaning.specs.Choices.{chosen}
 use Rattle.tool_frame.proofs.AnswerLemmas.{on_ok}
+use Rattle.play_tool.proofs.ChoiceLemmas.{choice_in_program}
 use Rattle.quiet_tool.specs.Answers.{no_action, bad_choice, bad_place, judged}
-use Rattle.quiet_tool.proofs.AnswerLemmas.{answer_is, choice_in_program}
+use Rattle.quiet_tool.proofs.AnswerLemmas.{answer_is}
 use Rattle.quiet_tool.proofs.judging.answer_code.Goals as goal
 
 pub returns-in-Ok-clause-answer : goal.returns-in-Ok-clause-answer
