@@ -1,7 +1,7 @@
 -- On the account of a turn.
 use Rattle.std.specs.Prelude.{count_by}
 use Rattle.std.specs.Bool.{beq}
-use Rattle.std.proofs.Common.{◌≡◌, ◌+◌, true, ap₂, false, Bool, List, [], ◌++◌, Some, None, refl, sym, ap, subst, ◌∙◌}
+use Rattle.std.proofs.Common.{◌≡◌, ℕ, ◌+◌, true, ap₂, false, Bool, List, [], ◌++◌, length, Some, None, refl, sym, ap, subst, ◌∙◌}
 use Rattle.std.proofs.lemmas.List.{append-nil}
 use Rattle.tap_states.specs.declared.Tap.{Tap}
 use Rattle.tool_io.specs.declared.lines.Lines.{Lines}
@@ -21,16 +21,19 @@ use Rattle.written_cable.specs.OnPaper.{lines_paper}
 use Rattle.written_cable.specs.PaperLaws.{puts_back, front_back}
 use Rattle.written_cable.specs.Signals.{signals_of}
 use Rattle.scan_accounts.specs.ShiftRuns.{ShiftRun, shift_runs}
-use Rattle.scan_accounts.specs.MadeTurns.{clocks_among, happened_events}
+use Rattle.scan_accounts.specs.MadeTurns.{clocks_among, usec_among, happened_events}
+use Rattle.scan_accounts.specs.Rooms.{FitIn}
+use Rattle.scan_accounts.specs.AccountTexts.{counted}
 use Rattle.scan_accounts.proofs.OtherLines.{text_both}
 use Rattle.account_lines.specs.declared.lines.TurnPlace.{TurnPlace}
 use Rattle.run_cable.specs.HeardRuns.{Heard, all_runs, closed, scans_counted, heard_all}
 use Rattle.run_cable.proofs.HeardLemmas.{scans_stay}
-use Rattle.run_cable.specs.KeptRuns.{Kept, IsKnown, Becomes, begun}
+use Rattle.run_cable.specs.KeptRuns.{Kept, Room, IsKnown, Becomes, StaysIfRoom, begun}
+use Rattle.run_cable.specs.RunCableLaws.{closed_same}
 use Rattle.account_plays.specs.RunTexts.{runs_text}
 use Rattle.account_plays.specs.AccountTurns.{chain_of, chain_heard, begun_at, TurnsFront, TurnsKept}
-use Rattle.account_plays.specs.AccountedTurns.{turn_text, scans_if, AccountsTurn, AccountsFront}
-use Rattle.account_plays.proofs.HeardTurns.{plus_none, turn_runs, clocks_go_on, usec_goes_on, happened_after}
+use Rattle.account_plays.specs.AccountedTurns.{turn_text, turn_scans, scans_if, SumsGoOn, HasRoomFor, TurnFindsRoom, AccountsTurn, AccountsFront}
+use Rattle.account_plays.proofs.HeardTurns.{counted_none, counted_once, turn_runs, clocks_go_on, usec_goes_on, happened_after}
 
 -- where a turn led has no events
 pub led_without : (w : Went) (s : State) (k : Chain) → happened_events (led_on w s k) ≡ []
@@ -51,13 +54,16 @@ same_usec : (b : Bool) (h : Heard) → (scans_counted b h).usec ≡ h.usec
 same_usec true h = refl
 same_usec false h = refl
 
-ir_counted : (b : Bool) (h : Heard) → (scans_counted b h).ir_scans ≡ h.ir_scans + scans_if b (count_by (λ (r : ShiftRun). beq r.ir true) h.ended)
-ir_counted true h = refl
-ir_counted false h = plus_none h.ir_scans
+abbrev count_of : Bool → Heard → ℕ
+count_of ir h = count_by (λ (r : ShiftRun). beq r.ir ir) h.ended
 
-dr_counted : (b : Bool) (h : Heard) → (scans_counted b h).dr_scans ≡ h.dr_scans + scans_if b (count_by (λ (r : ShiftRun). beq r.ir false) h.ended)
-dr_counted true h = refl
-dr_counted false h = plus_none h.dr_scans
+ir_counted : (b : Bool) (h : Heard) → counted (scans_counted b h).ir_scans ≡ counted (h.ir_scans + scans_if b (count_of true h))
+ir_counted true h = counted_once (h.ir_scans + count_of true h)
+ir_counted false h = counted_none h.ir_scans
+
+dr_counted : (b : Bool) (h : Heard) → counted (scans_counted b h).dr_scans ≡ counted (h.dr_scans + scans_if b (count_of false h))
+dr_counted true h = counted_once (h.dr_scans + count_of false h)
+dr_counted false h = counted_none h.dr_scans
 
 module _ {C K : Type 0} (cable : CableOf C) (sink : SinkOf K) (base : BaseLengths) (said : TurnPlace) (at to : Tap) (turn : Chain → Happened)
     (old new : C) (runs mid_runs new_runs : Kept) (out mid_out : Lines K) where
@@ -70,24 +76,69 @@ module _ {C K : Type 0} (cable : CableOf C) (sink : SinkOf K) (base : BaseLength
     first_put : Puts sink out (events_text false [] events) mid_out
     first_put = puts_back sink out mid_out (events_text false [] events) same whole kept t.turns.put
 
-    module _ (closed_runs : Kept) (closes : Becomes mid_runs (closed mid_runs.heard) closed_runs)
-        (counts : Becomes closed_runs (scans_counted said.scans closed_runs.heard) new_runs) (e : new_runs.lost ≡ false) (ended : List ShiftRun) (ended_is : ended ≡ new_runs.heard.ended) where
-      counted : IsKnown closed_runs (scans_counted said.scans closed_runs.heard) new_runs
-      counted = counts e
+    own_events : (more : List Bool) → happened_events (turn (chain_heard cable base at old events more)) ≡ events
+    own_events more =
+        ap happened_events (t.turns.does more) ∙ happened_after events (led_on w s (chain_of cable base to new more))
+        ∙ ap (λ es. events ++ es) (led_without w s (chain_of cable base to new more)) ∙ append-nil events
+
+    module _ (closed_runs : Kept) (closes : Becomes mid_runs (closed mid_runs.heard) closed_runs) (closes_fit : StaysIfRoom mid_runs (closed mid_runs.heard) closed_runs)
+        (counts : new_runs ≡ record closed_runs { heard = scans_counted said.scans closed_runs.heard }) (none_lost : runs.lost ≡ false)
+        (finds : TurnFindsRoom cable base turn at old runs) (ended : List ShiftRun) (ended_is : ended ≡ new_runs.heard.ended) where
+      abbrev begins : Heard
+      begins = begun at runs.heard
+
+      abbrev own_runs : List ShiftRun
+      own_runs = shift_runs at (clocks_among events)
+
+      room : FitIn runs.room.bits runs.room.runs own_runs
+      room = subst (λ es. HasRoomFor runs at es) (own_events []) (finds events [])
+
+      mid_kept : mid_runs.lost ≡ false
+      mid_kept = t.fits none_lost (subst (λ rs. FitIn runs.room.bits runs.room.runs rs) (sym (turn_runs at runs.heard events)) room)
+
+      first : IsKnown (begun_at at runs) (heard_all begins (signals_of events)) mid_runs
+      first = t.heard.known mid_kept
+
+      mid_said : all_runs mid_runs.heard ≡ own_runs
+      mid_said = ap all_runs first.heard ∙ turn_runs at runs.heard events
+
+      closed_kept : closed_runs.lost ≡ false
+      closed_kept =
+          closes_fit mid_kept
+          (subst (λ (r : Room). FitIn r.bits r.runs (all_runs (closed mid_runs.heard))) (sym t.heard.room)
+          (subst (λ rs. FitIn runs.room.bits runs.room.runs rs) (sym (closed_same (all_runs mid_runs.heard) ∙ mid_said)) room))
 
       last : IsKnown mid_runs (closed mid_runs.heard) closed_runs
-      last = closes counted.none_lost
+      last = closes.known closed_kept
 
-      first : IsKnown (begun_at at runs) (heard_all (begun at runs.heard) (signals_of events)) mid_runs
-      first = t.heard last.none_lost
+      -- what is counted of the turn, before its scans are
+      closed_heard : closed_runs.heard ≡ closed (heard_all begins (signals_of events))
+      closed_heard = last.heard ∙ ap closed first.heard
 
-      closed_said : closed_runs.heard.ended ≡ shift_runs at (clocks_among events)
-      closed_said = ap (λ (h : Heard). h.ended) last.heard ∙ ap all_runs first.heard ∙ turn_runs at runs.heard events
+      counts_heard : new_runs.heard ≡ scans_counted said.scans closed_runs.heard
+      counts_heard = ap (λ (k : Kept). k.heard) counts
 
-      runs_said : ended ≡ shift_runs at (clocks_among events)
-      runs_said =
-          ended_is ∙ ap (λ (h : Heard). h.ended) counted.heard ∙ same_ended said.scans closed_runs.heard ∙ ap (λ (h : Heard). h.ended) last.heard
-          ∙ ap all_runs first.heard ∙ turn_runs at runs.heard events
+      closed_said : closed_runs.heard.ended ≡ own_runs
+      closed_said = ap (λ (h : Heard). h.ended) last.heard ∙ mid_said
+
+      runs_said : ended ≡ own_runs
+      runs_said = ended_is ∙ ap (λ (h : Heard). h.ended) counts_heard ∙ same_ended said.scans closed_runs.heard ∙ closed_said
+
+      sums : SumsGoOn runs (length (clocks_among events)) (usec_among events) (turn_scans said true at events) (turn_scans said false at events) new_runs
+      sums = record {
+        none_lost = ap (λ (k : Kept). k.lost) counts ∙ closed_kept;
+        same_room = ap (λ (k : Kept). k.room) counts ∙ closes.room ∙ t.heard.room;
+        more_clocks = ap (λ (h : Heard). counted h.clocks) counts_heard ∙ ap counted (same_clocks said.scans closed_runs.heard)
+            ∙ ap (λ (h : Heard). counted h.clocks) closed_heard ∙ clocks_go_on events begins;
+        more_usec = ap (λ (h : Heard). counted h.usec) counts_heard ∙ ap counted (same_usec said.scans closed_runs.heard)
+            ∙ ap (λ (h : Heard). counted h.usec) closed_heard ∙ usec_goes_on events begins;
+        more_ir = ap (λ (h : Heard). counted h.ir_scans) counts_heard ∙ ir_counted said.scans closed_runs.heard
+            ∙ ap₂ (λ n m. counted (n + scans_if said.scans m)) (ap (λ (h : Heard). h.ir_scans) closed_heard ∙ (scans_stay (signals_of events) begins).0)
+            (ap (count_by (λ (r : ShiftRun). beq r.ir true)) closed_said);
+        more_dr = ap (λ (h : Heard). counted h.dr_scans) counts_heard ∙ dr_counted said.scans closed_runs.heard
+            ∙ ap₂ (λ n m. counted (n + scans_if said.scans m)) (ap (λ (h : Heard). h.dr_scans) closed_heard ∙ (scans_stay (signals_of events) begins).1)
+            (ap (count_by (λ (r : ShiftRun). beq r.ir false)) closed_said);
+      }
 
       pub accounted : (new_out : Lines K) → Puts sink mid_out (runs_text said base ended) new_out →
           AccountsTurn cable sink base said turn at old runs out (led_on w s) to new new_runs new_out
@@ -96,18 +147,7 @@ module _ {C K : Type 0} (cable : CableOf C) (sink : SinkOf K) (base : BaseLength
         made = t.turns.made;
         put = put_then first_put (puts_same (ap (runs_text said base) runs_said) p);
         does = t.turns.does;
-        sums = record {
-          was_none_lost = first.none_lost;
-          none_lost = e;
-          clocks = ap (λ (h : Heard). h.clocks) counted.heard ∙ same_clocks said.scans closed_runs.heard ∙ ap (λ (h : Heard). h.clocks) last.heard ∙ ap (λ (h : Heard). h.clocks) first.heard ∙ clocks_go_on events (begun at runs.heard);
-          usec = ap (λ (h : Heard). h.usec) counted.heard ∙ same_usec said.scans closed_runs.heard ∙ ap (λ (h : Heard). h.usec) last.heard ∙ ap (λ (h : Heard). h.usec) first.heard ∙ usec_goes_on events (begun at runs.heard);
-          ir_scans = ap (λ (h : Heard). h.ir_scans) counted.heard ∙ ir_counted said.scans closed_runs.heard
-              ∙ ap₂ (λ n m. n + scans_if said.scans m) (ap (λ (h : Heard). h.ir_scans) last.heard ∙ ap (λ (h : Heard). h.ir_scans) first.heard
-              ∙ (scans_stay (signals_of events) (begun at runs.heard)).0) (ap (count_by (λ (r : ShiftRun). beq r.ir true)) closed_said);
-          dr_scans = ap (λ (h : Heard). h.dr_scans) counted.heard ∙ dr_counted said.scans closed_runs.heard
-              ∙ ap₂ (λ n m. n + scans_if said.scans m) (ap (λ (h : Heard). h.dr_scans) last.heard ∙ ap (λ (h : Heard). h.dr_scans) first.heard
-              ∙ (scans_stay (signals_of events) (begun at runs.heard)).1) (ap (count_by (λ (r : ShiftRun). beq r.ir false)) closed_said);
-        };
+        sums = sums;
       }
 
       -- a front of the lines of its runs was put
@@ -115,12 +155,8 @@ module _ {C K : Type 0} (cable : CableOf C) (sink : SinkOf K) (base : BaseLength
           AccountsFront cable sink base said turn at old out new_out
       runs_torn new_out p = record {
         events = events;
-        put = λ more.
-            (let all : happened_events (turn (chain_heard cable base at old events more)) ≡ events =
-            ap happened_events (t.turns.does more) ∙ happened_after events (led_on w s (chain_of cable base to new more))
-            ∙ ap (λ es. events ++ es) (led_without w s (chain_of cable base to new more)) ∙ append-nil events in
-            subst (λ es. PutsFront sink out (turn_text said base at es) new_out) (sym all)
-            (put_then_front first_put (front_same (ap (runs_text said base) runs_said) p)).put);
+        put = λ more. subst (λ es. PutsFront sink out (turn_text said base at es) new_out) (sym (own_events more))
+            (put_then_front first_put (front_same (ap (runs_text said base) runs_said) p)).put;
       }
 
   -- a front of what it writes besides was put

@@ -1,5 +1,6 @@
 -- On the turns of a run, one after another, with their accounts.
-use Rattle.std.proofs.Common.{◌≡◌, ◌<◌, inl, inr, ℕ, suc, ◌+◌, ◌-◌, Bool, true, false, List, [], ◌∷◌, ◌++◌, length, Option, Some, None, Err, refl, sym, ap, subst, ◌∙◌, append_assoc, arith}
+use Rattle.std.proofs.Common.{◌≡◌, ◌<◌, inl, inr, ℕ, suc, ◌+◌, ◌-◌, Bool, true, false, List, [], ◌∷◌, ◌++◌, length, Option, Some, None, refl, sym, ap, subst, ◌∙◌, append_assoc, arith}
+use Rattle.std.specs.Prelude.{All}
 use Rattle.std.specs.Option.{option_map_or}
 use Rattle.std.proofs.lemmas.List.{append-nil, length-append, map-append}
 use Rattle.std.proofs.lemmas.List.Concat.{flat_map-append}
@@ -28,15 +29,15 @@ use Rattle.stapl_machine.specs.Runs.{run_of}
 use Rattle.stapl_machine.proofs.RunLemmas.{goes_after, after_twice}
 use Rattle.written_cable.specs.Signals.{signals_of}
 use Rattle.written_cable.proofs.SignalLemmas.{signals_both, clocks_of_both}
+use Rattle.scan_accounts.specs.ShiftRuns.{shift_runs}
+use Rattle.scan_accounts.specs.Rooms.{FitIn}
 use Rattle.scan_accounts.specs.MadeTurns.{MadeTurn, clocks_among, usec_among, happened_events}
 use Rattle.account_lines.specs.declared.lines.TurnPlace.{TurnPlace}
-use Rattle.run_cable.specs.KeptRuns.{Kept}
+use Rattle.run_cable.specs.KeptRuns.{Kept, Room}
 use Rattle.account_plays.specs.AccountTurns.{chain_of, chain_heard}
-use Rattle.account_plays.specs.AccountedTurns.{turn_text, turn_scans, SumsGoOn, AccountsTurn, AccountsFront, HasAccounted}
-use Rattle.account_plays.specs.AccountedRuns.{said_in, turns_text, turns_scans, TurnsGoOn, HasTurnAt, IsNextCodeTurn, AreNextCodeTurns, HasStopped, PlayedSoFar, PlayedTurns, PlayedFront, HasPlayedTurns}
-use Rattle.account_plays.specs.declared.failures.AccountFailed.{AccountFailed}
-use Rattle.account_plays.specs.declared.failures.AccountFailed.TheVariants.{Write, Lost}
-use Rattle.account_plays.proofs.HeardTurns.{plus_none, clocks_both, usec_both, happened_after}
+use Rattle.account_plays.specs.AccountedTurns.{turn_text, turn_scans, SumsGoOn, HasRoomFor, TurnFindsRoom, AccountsTurn, AccountsFront}
+use Rattle.account_plays.specs.AccountedRuns.{said_in, turns_text, turns_scans, TurnsGoOn, HasTurnAt, IsNextCodeTurn, AreNextCodeTurns, HasStopped, TurnsAreTold, TurnsFindRoom, PlayedSoFar, PlayedTurns, PlayedFront}
+use Rattle.account_plays.proofs.HeardTurns.{plus_none, counted_none, sum_on, clocks_both, usec_both, happened_after}
 use Rattle.account_plays.proofs.AccountLemmas.{led_without}
 
 -- ---- lists
@@ -86,19 +87,23 @@ from_none n = omega arith
 next_count : (i n : ℕ) → (i + 1) + n ≡ i + suc n
 next_count i n = omega arith
 
-sum_on : (a b c d m n : ℕ) → b ≡ a + m → c ≡ b + n → d ≡ m + n → c ≡ a + d
-sum_on a b c d m n e f g = omega (arith, e, f, g)
+-- the last of turns is as all of them are
+last_of : (P : MadeTurn → Type 0) (ts : List MadeTurn) (t : MadeTurn) → All P (ts ++ t ∷ []) → P t
+last_of P [] t all = all 0 t (omega arith)
+last_of P (x ∷ ts) t all = last_of P ts t (λ k d h. all (suc k) d (omega (arith, h)))
 
-pub sums_both : (old mid new : Kept) (es fs : List Event) (ir dr more_ir more_dr all_ir all_dr : ℕ) → SumsGoOn old es ir dr mid → SumsGoOn mid fs more_ir more_dr new →
-    all_ir ≡ ir + more_ir → all_dr ≡ dr + more_dr → SumsGoOn old (es ++ fs) all_ir all_dr new
+-- the sums of events in two parts, and of the scans of both
+pub sums_both : (old mid new : Kept) (es fs : List Event) (ir dr more_ir more_dr all_ir all_dr : ℕ) →
+    SumsGoOn old (length (clocks_among es)) (usec_among es) ir dr mid → SumsGoOn mid (length (clocks_among fs)) (usec_among fs) more_ir more_dr new →
+    all_ir ≡ ir + more_ir → all_dr ≡ dr + more_dr → SumsGoOn old (length (clocks_among (es ++ fs))) (usec_among (es ++ fs)) all_ir all_dr new
 sums_both old mid new es fs ir dr more_ir more_dr all_ir all_dr a b e f = record {
-  was_none_lost = a.was_none_lost;
   none_lost = b.none_lost;
-  clocks = sum_on old.heard.clocks mid.heard.clocks new.heard.clocks (length (clocks_among (es ++ fs))) (length (clocks_among es)) (length (clocks_among fs))
-      a.clocks b.clocks (clocks_both es fs);
-  usec = sum_on old.heard.usec mid.heard.usec new.heard.usec (usec_among (es ++ fs)) (usec_among es) (usec_among fs) a.usec b.usec (usec_both es fs);
-  ir_scans = sum_on old.heard.ir_scans mid.heard.ir_scans new.heard.ir_scans all_ir ir more_ir a.ir_scans b.ir_scans e;
-  dr_scans = sum_on old.heard.dr_scans mid.heard.dr_scans new.heard.dr_scans all_dr dr more_dr a.dr_scans b.dr_scans f;
+  same_room = b.same_room ∙ a.same_room;
+  more_clocks = sum_on old.heard.clocks mid.heard.clocks new.heard.clocks (length (clocks_among es)) (length (clocks_among fs))
+      (length (clocks_among (es ++ fs))) a.more_clocks b.more_clocks (clocks_both es fs);
+  more_usec = sum_on old.heard.usec mid.heard.usec new.heard.usec (usec_among es) (usec_among fs) (usec_among (es ++ fs)) a.more_usec b.more_usec (usec_both es fs);
+  more_ir = sum_on old.heard.ir_scans mid.heard.ir_scans new.heard.ir_scans ir more_ir all_ir a.more_ir b.more_ir e;
+  more_dr = sum_on old.heard.dr_scans mid.heard.dr_scans new.heard.dr_scans dr more_dr all_dr a.more_dr b.more_dr f;
 }
 
 module _ {C K : Type 0} (cable : CableOf C) (sink : SinkOf K) (code : CodeLists) (table : List TurnPlace) (base : BaseLengths) (start : ℕ) (s0 : State)
@@ -107,9 +112,9 @@ module _ {C K : Type 0} (cable : CableOf C) (sink : SinkOf K) (code : CodeLists)
   all n = run_of code n start s0
 
   -- no turn yet
-  pub so_far_none : cable.made old [] old → IsWhole out →
+  pub so_far_none : cable.made old [] old → IsWhole out → runs.lost ≡ false →
       PlayedSoFar cable sink code table base all from old runs out 0 start s0 from old runs out
-  so_far_none none whole = record {
+  so_far_none none whole none_lost = record {
     events = [];
     turns = [];
     made = none;
@@ -117,15 +122,23 @@ module _ {C K : Type 0} (cable : CableOf C) (sink : SinkOf K) (code : CodeLists)
     count = refl;
     goes = λ more n. ap (λ (m : ℕ). run_of code m start s0 (chain_of cable base from old more)) (omega arith);
     are = λ more. tt;
-    sums = λ e. record {
-      was_none_lost = e;
-      none_lost = e;
-      clocks = plus_none runs.heard.clocks;
-      usec = plus_none runs.heard.usec;
-      ir_scans = plus_none runs.heard.ir_scans;
-      dr_scans = plus_none runs.heard.dr_scans;
+    sums = record {
+      none_lost = none_lost;
+      same_room = refl;
+      more_clocks = counted_none runs.heard.clocks;
+      more_usec = counted_none runs.heard.usec;
+      more_ir = counted_none runs.heard.ir_scans;
+      more_dr = counted_none runs.heard.dr_scans;
     };
   }
+
+  -- the next turn is told
+  pub next_told : (i place : ℕ) (s : State) (at : Tap) (new : C) (new_runs : Kept) (new_out : Lines K) →
+      PlayedSoFar cable sink code table base all from old runs out i place s at new new_runs new_out → TurnsAreTold cable code table base all from old →
+      (said : TurnPlace) × HasTurnAt code table place said
+  next_told i place s at new new_runs new_out p told =
+      told p.events [] i place
+      (ap (λ (m : ℕ). (all m (chain_heard cable base from old p.events [])).outcome) (plus_none i) ∙ ap (λ (r : Run). r.outcome) (p.goes [] 0))
 
   -- one turn more
   module _ (i place : ℕ) (s : State) (at : Tap) (new : C) (new_runs : Kept) (new_out : Lines K)
@@ -198,23 +211,29 @@ module _ {C K : Type 0} (cable : CableOf C) (sink : SinkOf K) (code : CodeLists)
         ∙ ap (λ n. turns_scans table ir p.turns + n) (sym (from_none (scans (turn_of own))))
         ∙ ap (λ (x : TurnPlace). turns_scans table ir p.turns + turn_scans x ir at own) told
 
+    -- there is room for it
+    pub next_finds : TurnsFindRoom cable code table base all from old runs → TurnFindsRoom cable base (turn_at code place s) at new new_runs
+    next_finds finds = λ es more.
+        (let own : List Event = happened_events (turn_at code place s (before es more)) in
+        let fits : HasRoomFor runs at own =
+        last_of (λ (t : MadeTurn). HasRoomFor runs t.from t.events) p.turns (turn_of own) (finds (p.events ++ es) more (p.turns ++ turn_of own ∷ []) (are_next es more own refl)) in
+        subst (λ (r : Room). FitIn r.bits r.runs (shift_runs at (clocks_among own))) (sym p.sums.same_room) fits)
+
+    one_more : (own : List Event) → length (p.turns ++ turn_of own ∷ []) ≡ i + 1
+    one_more own = length-append p.turns (turn_of own ∷ []) ∙ ap (λ n. n + 1) p.count
+
     -- a front of its text was put
-    played_front : (last_out : Lines K) → AccountsFront cable sink base said (turn_at code place s) at new new_out last_out →
-        PlayedFront cable sink code table base all from old runs out last_out
-    played_front last_out a =
+    pub played_front : (most : ℕ) → i < most → (last_out : Lines K) → AccountsFront cable sink base said (turn_at code place s) at new new_out last_out →
+        PlayedFront cable sink code table base all from old runs out most last_out
+    played_front most h last_out a =
         let own : List Bool → List Event = λ more. happened_events (turn_at code place s (before a.events more)) in
         record {
           events = p.events ++ a.events;
           turns = λ more. p.turns ++ turn_of (own more) ∷ [];
           are = λ more. are_next a.events more (own more) refl;
+          few = λ more. omega (arith, one_more (own more), h);
           put = λ more. subst (λ x. PutsFront sink out x last_out) (text_more (own more)) (then_front p.put (a.put more));
         }
-
-    pub played_failed : (failed : AccountFailed) (rest : Went → Chain → Happened) (most : ℕ) (last : C) (last_runs : Kept) (last_out : Lines K) →
-        HasAccounted cable sink base said (turn_at code place s) at new new_runs new_out (Err failed) rest last last_runs last_out →
-        HasPlayedTurns cable sink code table base all from old runs out most last last_runs last_out (Err failed)
-    played_failed Write rest most last last_runs last_out a = played_front last_out a
-    played_failed Lost rest most last last_runs last_out a = tt
 
     module _ (both : (x y z : C) (front back : List Signal) → cable.made x front y → cable.made y back z → cable.made x (front ++ back) z)
         (last : C) (last_runs : Kept) (last_out : Lines K) (to : Tap) (w : Went) (u : State)
@@ -239,14 +258,11 @@ module _ {C K : Type 0} (cable : CableOf C) (sink : SinkOf K) (code : CodeLists)
           turns_on a.events more n ∙ ap (λ (h : Happened). after p.events (goes_on h s k (run_of code n))) (a.does more)
           ∙ ap (after p.events) (goes_after a.events rest s k (run_of code n)) ∙ after_twice p.events a.events (goes_on rest s k (run_of code n))
 
-      sums_more : last_runs.lost ≡ false → TurnsGoOn table runs (p.events ++ a.events) (p.turns ++ turn_of a.events ∷ []) last_runs
-      sums_more e =
+      sums_more : TurnsGoOn table runs (p.events ++ a.events) (p.turns ++ turn_of a.events ∷ []) last_runs
+      sums_more =
           sums_both runs new_runs last_runs p.events a.events (turns_scans table true p.turns) (turns_scans table false p.turns) (turn_scans said true at a.events)
           (turn_scans said false at a.events) (turns_scans table true (p.turns ++ turn_of a.events ∷ [])) (turns_scans table false (p.turns ++ turn_of a.events ∷ []))
-          (p.sums a.sums.was_none_lost) a.sums (scans_more true a.events) (scans_more false a.events)
-
-      pub one_more : length (p.turns ++ turn_of a.events ∷ []) ≡ i + 1
-      one_more = length-append p.turns (turn_of a.events ∷ []) ∙ ap (λ n. n + 1) p.count
+          p.sums a.sums (scans_more true a.events) (scans_more false a.events)
 
       -- and the run goes on
       pub so_far_more : (place' : ℕ) → w ≡ went.On place' → PlayedSoFar cable sink code table base all from old runs out (i + 1) place' u to last last_runs last_out
@@ -255,7 +271,7 @@ module _ {C K : Type 0} (cable : CableOf C) (sink : SinkOf K) (code : CodeLists)
         turns = p.turns ++ turn_of a.events ∷ [];
         made = made_both;
         put = put_both;
-        count = one_more;
+        count = one_more a.events;
         goes = λ more n.
             ap (λ (m : ℕ). all m (whole_chain a.events more)) (next_count i n) ∙ goes_then more n
             ∙ ap (λ (v : Went). after (p.events ++ a.events) (goes_on (led_on v u (chain_of cable base to last more)) s (before a.events more) (run_of code n))) is;
@@ -265,7 +281,7 @@ module _ {C K : Type 0} (cable : CableOf C) (sink : SinkOf K) (code : CodeLists)
 
       -- and the run is over
       pub played_over : (most : ℕ) (ending : Option Ending) → w ≡ went.Over ending → i < most →
-          PlayedTurns cable sink code table base all from old runs out most ending last last_runs last_out
+          PlayedTurns cable sink code table base all from old runs out most (record { ending = ending; turns = i + 1 }) last last_runs last_out
       played_over most ending is h =
           let m : ℕ = most - (i + 1) in
           let over : (more : List Bool) (n : ℕ) → all (i + suc n) (whole_chain a.events more)
@@ -282,9 +298,10 @@ module _ {C K : Type 0} (cable : CableOf C) (sink : SinkOf K) (code : CodeLists)
             made = made_both;
             put = put_both;
             are = λ more. are_next a.events more a.events (own_events more);
-            few = omega (arith, one_more, h);
+            few = omega (arith, one_more a.events, h);
+            counted = one_more a.events;
             whole = λ more.
-                inr (subst HasStopped (sym (ap (λ (n : ℕ). all n (whole_chain a.events more)) one_more ∙ over more 0))
+                inr (subst HasStopped (sym (ap (λ (n : ℕ). all n (whole_chain a.events more)) (one_more a.events) ∙ over more 0))
                 (over_stops code ending 0 s u (before a.events more) (chain_of cable base to last more)));
             gives = λ more.
                 ap (λ (r : Run). r.events) (last_run more)
@@ -299,7 +316,7 @@ module _ {C K : Type 0} (cable : CableOf C) (sink : SinkOf K) (code : CodeLists)
   -- all turns are spent
   pub played_spent : (most i place : ℕ) (s : State) (at : Tap) (new : C) (new_runs : Kept) (new_out : Lines K) → i ≡ most →
       PlayedSoFar cable sink code table base all from old runs out i place s at new new_runs new_out →
-      PlayedTurns cable sink code table base all from old runs out most (Some Spent) new new_runs new_out
+      PlayedTurns cable sink code table base all from old runs out most (record { ending = Some Spent; turns = most }) new new_runs new_out
   played_spent most i place s at new new_runs new_out e p =
       let last_run : (more : List Bool) → all most (chain_heard cable base from old p.events more)
       ≡ after p.events (run_of code 0 place s (chain_of cable base at new more)) =
@@ -311,6 +328,7 @@ module _ {C K : Type 0} (cable : CableOf C) (sink : SinkOf K) (code : CodeLists)
         put = p.put;
         are = p.are;
         few = omega (arith, p.count, e);
+        counted = p.count ∙ e;
         whole = λ more. inl (p.count ∙ e);
         gives = λ more. ap (λ (r : Run). r.events) (last_run more) ∙ append-nil p.events;
         ended = λ more. ap (λ (r : Run). ending_of r.outcome) (last_run more);

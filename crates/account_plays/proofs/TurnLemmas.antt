@@ -5,7 +5,7 @@ use Rattle.tap_states.specs.declared.Tap.{Tap}
 use Rattle.dev_card.specs.Board.{Clock, tdos}
 use Rattle.dev_card.specs.Padding.{BaseLengths}
 use Rattle.scan_paths.specs.declared.cable.Cable.{Ghosts as CableOf}
-use Rattle.scan_paths.specs.Cables.{Signal, clocks_in}
+use Rattle.scan_paths.specs.Cables.{Signal, clocks_in, whole}
 use Rattle.stapl_meaning.specs.declared.events.Event.{Event}
 use Rattle.stapl_meaning.specs.Deeds.{Chain}
 use Rattle.stapl_meaning.specs.States.{Happened, with_events}
@@ -19,11 +19,10 @@ use Rattle.written_cable.specs.Pins.{cable_of, lines_of, tap_of, base_of, digits
 use Rattle.written_cable.specs.Ports.{chain_before, Does, DoesFront, IsOpenPort}
 use Rattle.written_cable.proofs.DeedLemmas.{whole_line}
 use Rattle.run_cable.specs.declared.run_cable.RunCable.{RunCable}
-use Rattle.run_cable.specs.HeardRuns.{Heard, heard_all}
-use Rattle.run_cable.specs.KeptRuns.{Kept, IsKnown, begun}
+use Rattle.run_cable.specs.KeptRuns.{Kept, Hears, HearsIfRoom}
 use Rattle.run_cable.specs.RunCables.{runs_of, LeadsRuns}
 use Rattle.run_cable.specs.RunCables as runs_cable
-use Rattle.account_plays.specs.AccountTurns.{chain_of, chain_heard, IsOpenCable, Turns, TurnsFront, TurnsKept}
+use Rattle.account_plays.specs.AccountTurns.{chain_of, chain_heard, begun_at, IsOpenCable, Turns, TurnsFront, TurnsKept}
 
 -- without the digits of clocks no line waits
 text_whole : (es : List Event) → events_text false [] es ≡ bytes_of false [] es
@@ -92,9 +91,9 @@ module _ {C O : Type 0} (cable : CableOf C) (paper : PaperOf O) (base : BaseLeng
 
 -- a turn over a cable whose runs are kept, by the names of its parts
 module _ {C O : Type 0} (cable : CableOf C) (paper : PaperOf O) (base : BaseLengths) (at to : Tap) (old new : C) (runs new_runs : Kept) (out new_out : O)
-    (a b : RunCable C) (old_is : runs_cable.cable_of a ≡ old) (new_is : new ≡ runs_cable.cable_of b) (no_runs : (runs_of a).heard ≡ begun at runs.heard)
-    (as_lost : (runs_of a).lost ≡ runs.lost) (runs_is : new_runs ≡ runs_of b) where
-  pub kept_turned : (turn rest : Chain → Happened) (events : List Event) → LeadsRuns cable.made a (signals_of events) b →
+    (a b : RunCable C) (old_is : runs_cable.cable_of a ≡ old) (new_is : new ≡ runs_cable.cable_of b) (begun_is : runs_of a ≡ begun_at at runs)
+    (runs_is : new_runs ≡ runs_of b) (is_whole : cable.breakage (runs_cable.cable_of b) ≡ whole) where
+  pub kept_turned : (turn rest : Chain → Happened) (events : List Event) → LeadsRuns cable.made cable.breakage a (signals_of events) b →
       Puts paper.shown out (events_text false [] events) new_out →
       ((more : List Bool) → turn (chain_heard cable base at (runs_cable.cable_of a) events more)
       ≡ with_events events (rest (chain_of cable base to (runs_cable.cable_of b) more))) →
@@ -110,10 +109,7 @@ module _ {C O : Type 0} (cable : CableOf C) (paper : PaperOf O) (base : BaseLeng
               ap (λ (d : C). turn (chain_heard cable base at d events more)) (sym old_is) ∙ does more
               ∙ ap (λ (d : C). with_events events (rest (chain_of cable base to d more))) (sym new_is);
         };
-        heard = λ e.
-            (let known : IsKnown (runs_of a) (heard_all (runs_of a).heard signals) (runs_of b) = leads.heard (ap (λ (k : Kept). k.lost) (sym runs_is) ∙ e) in
-            record {
-              none_lost = sym as_lost ∙ known.none_lost;
-              heard = ap (λ (k : Kept). k.heard) runs_is ∙ known.heard ∙ ap (λ (h : Heard). heard_all h signals) no_runs;
-            });
+        heard = subst (λ (k : Kept). Hears k signals new_runs) begun_is (subst (λ (k : Kept). Hears (runs_of a) signals k) (sym runs_is) leads.heard);
+        fits = subst (λ (k : Kept). HearsIfRoom k signals new_runs) begun_is
+            (subst (λ (k : Kept). HearsIfRoom (runs_of a) signals k) (sym runs_is) (leads.fits is_whole));
       }

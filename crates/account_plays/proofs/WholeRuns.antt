@@ -1,5 +1,6 @@
 -- On a whole run of a code, by its prologue and its turns.
-use Rattle.std.proofs.Common.{◌≡◌, inl, inr, ℕ, suc, Bool, true, false, List, [], ◌∷◌, ◌++◌, length, Option, Some, None, Err, refl, sym, ap, subst, ◌∙◌, append_assoc, arith}
+use Rattle.std.proofs.Common.{◌≡◌, inl, inr, ℕ, suc, Bool, true, false, List, [], ◌∷◌, ◌++◌, length, Option, Some, None, refl, sym, ap, subst, ◌∙◌, append_assoc, arith}
+use Rattle.std.specs.Prelude.{All}
 use Rattle.std.proofs.lemmas.List.{append-nil}
 use Rattle.tap_states.specs.declared.Tap.{Tap}
 use Rattle.tap_states.specs.declared.Tap.TheVariants.{Reset}
@@ -32,19 +33,21 @@ use Rattle.written_cable.specs.OnPaper.{lines_paper}
 use Rattle.written_cable.specs.PaperLaws.{puts_back, front_back}
 use Rattle.written_cable.specs.Signals.{signals_of}
 use Rattle.written_cable.proofs.SignalLemmas.{signals_both}
-use Rattle.scan_accounts.specs.MadeTurns.{MadeTurn, happened_events}
+use Rattle.scan_accounts.specs.ShiftRuns.{shift_runs}
+use Rattle.scan_accounts.specs.Rooms.{FitIn}
+use Rattle.scan_accounts.specs.AccountTexts.{counted}
+use Rattle.scan_accounts.specs.MadeTurns.{MadeTurn, clocks_among, usec_among, happened_events}
 use Rattle.scan_accounts.proofs.OtherLines.{text_both}
 use Rattle.account_lines.specs.declared.lines.TurnPlace.{TurnPlace}
 use Rattle.run_cable.specs.HeardRuns.{Heard, heard_all}
-use Rattle.run_cable.specs.KeptRuns.{Kept, IsKnown, begun}
-use Rattle.account_plays.specs.declared.failures.AccountFailed.{AccountFailed}
-use Rattle.account_plays.specs.declared.failures.AccountFailed.TheVariants.{Write, Lost}
+use Rattle.run_cable.specs.KeptRuns.{Kept, Room, begun}
+use Rattle.account_plays.specs.declared.running.Over.{Over}
 use Rattle.account_plays.specs.declared.turns.Part.TheVariants.{Prologue}
-use Rattle.account_plays.specs.AccountTurns.{part_at, chain_heard, begun_at, TurnsFront, TurnsKept}
-use Rattle.account_plays.specs.AccountedTurns.{SumsGoOn}
-use Rattle.account_plays.specs.AccountedRuns.{turns_text, turns_scans, TurnsGoOn, IsNextCodeTurn, AreNextCodeTurns, HasStopped, PlayedTurns, HasPlayedTurns, PlayedRun, PlayedRunFront, HasPlayedRun}
+use Rattle.account_plays.specs.AccountTurns.{part_at, chain_heard, TurnsFront, TurnsKept}
+use Rattle.account_plays.specs.AccountedTurns.{SumsGoOn, HasRoomFor}
+use Rattle.account_plays.specs.AccountedRuns.{turns_text, turns_scans, IsNextCodeTurn, AreNextCodeTurns, HasStopped, TurnsAreTold, TurnsFindRoom, FirstFindsRoom, PlayedTurns, PlayedFront, PlayedRun, PlayedRunFront}
 use Rattle.run_cable.proofs.HeardLemmas.{scans_stay}
-use Rattle.account_plays.proofs.HeardTurns.{plus_none, clocks_go_on, usec_goes_on, happened_after}
+use Rattle.account_plays.proofs.HeardTurns.{counted_none, turn_runs, clocks_go_on, usec_goes_on, happened_after}
 use Rattle.account_plays.proofs.RunAccounts.{heard_both, one_turn, over_ends, over_without, over_stops, from_none, sums_both}
 
 -- where the next procedure led
@@ -95,11 +98,12 @@ module _ {C K : Type 0} (cable : CableOf C) (sink : SinkOf K) (code : CodeLists)
 
   -- a front of what the prologue writes was put
   pub prologue_torn : (mid : C) (mid_out : Lines K) → TurnsFront cable (lines_paper sink) base prologue Reset old out mid mid_out → IsOverSame out mid_out →
-      SinkNeverFalls sink out mid_out → SinkHasRisen sink out mid_out → PlayedRunFront cable sink code table base all Reset old runs out mid_out
-  prologue_torn mid mid_out t same kept rose = record {
+      SinkNeverFalls sink out mid_out → SinkHasRisen sink out mid_out → (most : ℕ) → PlayedRunFront cable sink code table base all Reset old runs out most mid_out
+  prologue_torn mid mid_out t same kept rose most = record {
     events = t.events;
     turns = λ more. [];
     are = λ more. tt;
+    few = λ more. omega arith;
     put = λ more.
         (let k : Chain = before t.events more in let rest : Happened = begins_chosen entry (t.rest more) in
         let is : (all 0 k).events ≡ t.events ++ happened_events rest =
@@ -124,16 +128,19 @@ module _ {C K : Type 0} (cable : CableOf C) (sink : SinkOf K) (code : CodeLists)
     first_put : Puts sink out (events_text false [] first) mid_out
     first_put = puts_back sink out mid_out (events_text false [] first) same whole kept t.turns.put
 
-    first_sums : mid_runs.lost ≡ false → SumsGoOn runs first 0 0 mid_runs
-    first_sums e =
-        let known : IsKnown (begun_at Reset runs) (heard_all (begun Reset runs.heard) (signals_of first)) mid_runs = t.heard e in
+    first_sums : runs.lost ≡ false → HasRoomFor runs Reset first → SumsGoOn runs (length (clocks_among first)) (usec_among first) 0 0 mid_runs
+    first_sums none_lost room =
+        let begins : Heard = begun Reset runs.heard in
+        let mid_kept : mid_runs.lost ≡ false =
+        t.fits none_lost (subst (λ rs. FitIn runs.room.bits runs.room.runs rs) (sym (turn_runs Reset runs.heard first)) room) in
+        let known : mid_runs.heard ≡ heard_all begins (signals_of first) = (t.heard.known mid_kept).heard in
         record {
-          was_none_lost = known.none_lost;
-          none_lost = e;
-          clocks = ap (λ (h : Heard). h.clocks) known.heard ∙ clocks_go_on first (begun Reset runs.heard);
-          usec = ap (λ (h : Heard). h.usec) known.heard ∙ usec_goes_on first (begun Reset runs.heard);
-          ir_scans = ap (λ (h : Heard). h.ir_scans) known.heard ∙ (scans_stay (signals_of first) (begun Reset runs.heard)).0 ∙ plus_none runs.heard.ir_scans;
-          dr_scans = ap (λ (h : Heard). h.dr_scans) known.heard ∙ (scans_stay (signals_of first) (begun Reset runs.heard)).1 ∙ plus_none runs.heard.dr_scans;
+          none_lost = mid_kept;
+          same_room = t.heard.room;
+          more_clocks = ap (λ (h : Heard). counted h.clocks) known ∙ clocks_go_on first begins;
+          more_usec = ap (λ (h : Heard). counted h.usec) known ∙ usec_goes_on first begins;
+          more_ir = ap (λ (h : Heard). counted h.ir_scans) known ∙ ap counted (scans_stay (signals_of first) begins).0 ∙ counted_none runs.heard.ir_scans;
+          more_dr = ap (λ (h : Heard). counted h.dr_scans) known ∙ ap counted (scans_stay (signals_of first) begins).1 ∙ counted_none runs.heard.dr_scans;
         }
 
     begun_is : (es : List Event) (more : List Bool) →
@@ -152,9 +159,10 @@ module _ {C K : Type 0} (cable : CableOf C) (sink : SinkOf K) (code : CodeLists)
           ∙ goes_after first (h (beyond es more)) first_state k (run_of code n)
 
       -- no turn was played
-      pub played_none : (most : ℕ) (ending : Option Ending) (v : State) → ((k : Chain) → h k ≡ led_on (went.Over ending) v k) →
-          PlayedRun cable sink code table base all Reset old runs out most ending mid mid_runs mid_out
-      played_none most ending v over =
+      pub played_none : (most : ℕ) (ending : Option Ending) (v : State) → ((k : Chain) → h k ≡ led_on (went.Over ending) v k) → runs.lost ≡ false →
+          FirstFindsRoom cable code table base all Reset old runs →
+          PlayedRun cable sink code table base all Reset old runs out most (record { ending = ending; turns = 0 }) mid mid_runs mid_out
+      played_none most ending v over none_lost finds =
           let run : (more : List Bool) (n : ℕ) → all n (before (first ++ []) more)
           ≡ after first (goes_on (led_on (went.Over ending) v (beyond [] more)) first_state (before (first ++ []) more) (run_of code n)) =
           λ more n. all_then [] more n
@@ -171,11 +179,13 @@ module _ {C K : Type 0} (cable : CableOf C) (sink : SinkOf K) (code : CodeLists)
             first_is = λ more. events more 0 ∙ append-nil first;
             are = λ more. tt;
             few = omega arith;
+            counted = refl;
             whole = λ more. inr (subst HasStopped (sym (run more 0)) (over_stops code ending 0 first_state v (before (first ++ []) more) (beyond [] more)));
             gives = λ more. events more most;
             ended = λ more. ap (λ (r : Run). ending_of r.outcome) (run more most)
                 ∙ over_ends code ending most first_state v (before (first ++ []) more) (beyond [] more);
-            sums = λ e. subst (λ (es : List Event). SumsGoOn runs es 0 0 mid_runs) (sym (append-nil first)) (first_sums e);
+            sums = subst (λ (es : List Event). SumsGoOn runs (length (clocks_among es)) (usec_among es) 0 0 mid_runs) (sym (append-nil first))
+                (first_sums none_lost (subst (λ es. HasRoomFor runs Reset es) (events [] 0 ∙ append-nil first) (finds (first ++ []) [])));
           }
 
       -- turns were played after it
@@ -189,10 +199,29 @@ module _ {C K : Type 0} (cable : CableOf C) (sink : SinkOf K) (code : CodeLists)
         first_events : (es : List Event) (more : List Bool) → (all 0 (before (first ++ es) more)).events ≡ first
         first_events es more = ap (λ (r : Run). r.events) (on_is es more 0) ∙ append-nil first
 
-        pub played_on : (most : ℕ) (ending : Option Ending) (new : C) (new_runs : Kept) (new_out : Lines K) →
-            PlayedTurns cable sink code table base (λ n. run_of code n begin v) tap mid mid_runs mid_out most ending new new_runs new_out →
-            PlayedRun cable sink code table base all Reset old runs out most ending new new_runs new_out
-        played_on most ending new new_runs new_out p = record {
+        -- what the turns need
+        mid_sums : runs.lost ≡ false → FirstFindsRoom cable code table base all Reset old runs →
+            SumsGoOn runs (length (clocks_among first)) (usec_among first) 0 0 mid_runs
+        mid_sums none_lost finds = first_sums none_lost (subst (λ es. HasRoomFor runs Reset es) (first_events [] []) (finds (first ++ []) []))
+
+        pub turns_kept : runs.lost ≡ false → FirstFindsRoom cable code table base all Reset old runs → mid_runs.lost ≡ false
+        turns_kept none_lost finds = (mid_sums none_lost finds).none_lost
+
+        pub turns_told : TurnsAreTold cable code table base all Reset old → TurnsAreTold cable code table base (λ n. run_of code n begin v) tap mid
+        turns_told told = λ es more n at e. told (first ++ es) more n at (ap (λ (r : Run). r.outcome) (on_is es more n) ∙ e)
+
+        pub turns_find : TurnsFindRoom cable code table base all Reset old runs → TurnsFindRoom cable code table base (λ n. run_of code n begin v) tap mid mid_runs
+        turns_find finds = λ es more ts are.
+            (let fit : All (λ (t : MadeTurn). HasRoomFor runs t.from t.events) ts =
+            finds (first ++ es) more ts
+            (are_after code table first (λ n. run_of code n begin v (beyond es more)) (λ n. all n (before (first ++ es) more)) ts (on_is es more) are) in
+            subst (λ (r : Room). All (λ (t : MadeTurn). FitIn r.bits r.runs (shift_runs t.from (clocks_among t.events))) ts) (sym t.heard.room) fit)
+
+        pub played_on : (most : ℕ) (over : Over) (new : C) (new_runs : Kept) (new_out : Lines K) →
+            PlayedTurns cable sink code table base (λ n. run_of code n begin v) tap mid mid_runs mid_out most over new new_runs new_out →
+            runs.lost ≡ false → FirstFindsRoom cable code table base all Reset old runs →
+            PlayedRun cable sink code table base all Reset old runs out most over new new_runs new_out
+        played_on most over new new_runs new_out p none_lost finds = record {
           events = first ++ p.events;
           first = first;
           turns = p.turns;
@@ -203,25 +232,26 @@ module _ {C K : Type 0} (cable : CableOf C) (sink : SinkOf K) (code : CodeLists)
           are = λ more. are_after code table first (λ n. run_of code n begin v (beyond p.events more)) (λ n. all n (before (first ++ p.events) more)) p.turns
               (on_is p.events more) (p.are more);
           few = p.few;
+          counted = p.counted;
           whole = λ more. (elim (p.whole more) [
             | inl e ↦ inl e
             | inr stops ↦ inr (λ at e. stops at (sym (ap (λ (r : Run). r.outcome) (on_is p.events more (length p.turns))) ∙ e))
           ]);
           gives = λ more. ap (λ (r : Run). r.events) (on_is p.events more most) ∙ ap (λ (es : List Event). first ++ es) (p.gives more);
           ended = λ more. ap (λ (r : Run). ending_of r.outcome) (on_is p.events more most) ∙ p.ended more;
-          sums = λ e. (let s : TurnsGoOn table mid_runs p.events p.turns new_runs = p.sums e in let ir : ℕ = turns_scans table true p.turns in let dr : ℕ = turns_scans table false p.turns in
-              sums_both runs mid_runs new_runs first p.events 0 0 ir dr ir dr (first_sums s.was_none_lost) s (from_none ir) (from_none dr));
+          sums = (let ir : ℕ = turns_scans table true p.turns in let dr : ℕ = turns_scans table false p.turns in
+              sums_both runs mid_runs new_runs first p.events 0 0 ir dr ir dr (mid_sums none_lost finds) p.sums (from_none ir) (from_none dr));
         }
 
-        pub turns_failed : (failed : AccountFailed) (most : ℕ) (new : C) (new_runs : Kept) (new_out : Lines K) →
-            HasPlayedTurns cable sink code table base (λ n. run_of code n begin v) tap mid mid_runs mid_out most new new_runs new_out (Err failed) →
-            HasPlayedRun cable sink code table base all Reset old runs out most new new_runs new_out (Err failed)
-        turns_failed Lost most new new_runs new_out p = tt
-        turns_failed Write most new new_runs new_out p = record {
+        pub turns_torn : (most : ℕ) (new_out : Lines K) →
+            PlayedFront cable sink code table base (λ n. run_of code n begin v) tap mid mid_runs mid_out most new_out →
+            PlayedRunFront cable sink code table base all Reset old runs out most new_out
+        turns_torn most new_out p = record {
           events = first ++ p.events;
           turns = p.turns;
           are = λ more. are_after code table first (λ n. run_of code n begin v (beyond p.events more)) (λ n. all n (before (first ++ p.events) more)) (p.turns more)
               (on_is p.events more) (p.are more);
+          few = p.few;
           put = λ more. subst (λ es. PutsFront sink out (events_text false [] es ++ turns_text table base (p.turns more)) new_out) (sym (first_events p.events more))
               (then_front first_put (p.put more));
         }

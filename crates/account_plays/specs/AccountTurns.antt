@@ -20,7 +20,7 @@ use Rattle.written_cable.specs.Papers.{Puts, PutsFront}
 use Rattle.written_cable.specs.declared.paper.Paper.{Ghosts as PaperOf}
 use Rattle.written_cable.specs.declared.trouble.Trouble.{Trouble}
 use Rattle.written_cable.specs.Signals.{signals_of}
-use Rattle.run_cable.specs.KeptRuns.{Kept, Hears, begun}
+use Rattle.run_cable.specs.KeptRuns.{Kept, Hears, HearsIfRoom, begun}
 use Rattle.stapl_machine.specs.Turns.{rest_of, ticks_from, turn_at, ticks_at}
 use Rattle.account_plays.specs.declared.turns.Part.{Part}
 use Rattle.account_plays.specs.declared.turns.Part.TheVariants.{Prologue, Turn}
@@ -82,11 +82,13 @@ module _ {C O : Type 0} (cable : CableOf C) (paper : PaperOf O) (base : BaseLeng
   HasTurned turn at old out (Ok t) rest new new_out = Turns turn at old out (rest t.went) t.tap new new_out
   HasTurned turn at old out (Err e) rest new new_out = TurnsFront turn at old out new new_out
 
-  -- The same over a cable whose runs are kept: the signals among the events were heard from this state on.
+  -- The same over a cable whose runs are kept: the signals among the events were heard from this state on, and where there
+  -- is room for them, nothing is lost.
   pub record TurnsKept (turn : Chain → Happened) (at : Tap) (old : C) (runs : Kept) (out : O) (rest : Chain → Happened)
       (to : Tap) (new : C) (new_runs : Kept) (new_out : O) : Type 0 where
     pub turns : Turns turn at old out rest to new new_out
     pub heard : Hears (begun_at at runs) (signals_of turns.events) new_runs
+    pub fits : HearsIfRoom (begun_at at runs) (signals_of turns.events) new_runs
 
   -- what a call does that plays a turn so, by its result
   abbrev pub HasTurnedKept : (Chain → Happened) → Tap → C → Kept → O → Result Turned Trouble → (Went → Chain → Happened) → C → Kept →

@@ -3,6 +3,7 @@ use Rattle.std.specs.Prelude.{◌≡◌, ℕ, ◌+◌, Bool, true, false, List, 
 use Rattle.std.specs.Bool.{beq}
 use Rattle.tap_states.specs.declared.Tap.{Tap}
 use Rattle.tool_io.specs.declared.lines.Lines.{Lines}
+use Rattle.tool_io.specs.declared.outside.Failed.{Failed}
 use Rattle.tool_io.specs.declared.outside.Sink.{Ghosts as SinkOf}
 use Rattle.tool_io.specs.Lines.{Puts, PutsFront}
 use Rattle.dev_card.specs.Padding.{BaseLengths}
@@ -15,10 +16,10 @@ use Rattle.stapl_instructions.specs.declared.control.Went.{Went}
 use Rattle.written_cable.specs.Signals.{signals_of}
 use Rattle.scan_accounts.specs.ShiftRuns.{ShiftRun, shift_runs}
 use Rattle.scan_accounts.specs.MadeTurns.{clocks_among, usec_among, happened_events}
+use Rattle.scan_accounts.specs.Rooms.{FitIn}
+use Rattle.scan_accounts.specs.AccountTexts.{counted}
 use Rattle.account_lines.specs.declared.lines.TurnPlace.{TurnPlace}
 use Rattle.run_cable.specs.KeptRuns.{Kept}
-use Rattle.account_plays.specs.declared.failures.AccountFailed.{AccountFailed}
-use Rattle.account_plays.specs.declared.failures.AccountFailed.TheVariants.{Write, Lost}
 use Rattle.account_plays.specs.declared.turns.Turned.{Turned}
 use Rattle.account_plays.specs.AccountTurns.{chain_of, chain_heard}
 use Rattle.account_plays.specs.RunTexts.{runs_text}
@@ -36,15 +37,24 @@ abbrev pub turn_scans : TurnPlace → Bool → Tap → List Event → ℕ
 turn_scans turn ir at events =
     scans_if turn.scans (count_by (λ (r : ShiftRun). beq r.ir ir) (shift_runs at (clocks_among events)))
 
--- The sums of clocks and of microseconds go on by those of events, and those of scans by these numbers, and nothing was
--- lost.
-pub record SumsGoOn (old : Kept) (events : List Event) (ir dr : ℕ) (new : Kept) : Type 0 where
-  pub was_none_lost : old.lost ≡ false
+-- The sums go on by so many clocks, microseconds and scans of both kinds of registers, as they are written, and nothing
+-- was lost.
+pub record SumsGoOn (old : Kept) (clocks usec ir dr : ℕ) (new : Kept) : Type 0 where
   pub none_lost : new.lost ≡ false
-  pub clocks : new.heard.clocks ≡ old.heard.clocks + length (clocks_among events)
-  pub usec : new.heard.usec ≡ old.heard.usec + usec_among events
-  pub ir_scans : new.heard.ir_scans ≡ old.heard.ir_scans + ir
-  pub dr_scans : new.heard.dr_scans ≡ old.heard.dr_scans + dr
+  pub same_room : new.room ≡ old.room
+  pub more_clocks : counted new.heard.clocks ≡ counted (old.heard.clocks + clocks)
+  pub more_usec : counted new.heard.usec ≡ counted (old.heard.usec + usec)
+  pub more_ir : counted new.heard.ir_scans ≡ counted (old.heard.ir_scans + ir)
+  pub more_dr : counted new.heard.dr_scans ≡ counted (old.heard.dr_scans + dr)
+
+-- there is room for the runs of events from a state of the controllers on
+abbrev pub HasRoomFor : Kept → Tap → List Event → Type 0
+HasRoomFor runs at events = FitIn runs.room.bits runs.room.runs (shift_runs at (clocks_among events))
+
+-- and for those of a turn, whatever is still to be heard
+abbrev pub TurnFindsRoom : {C : Type 0} → CableOf C → BaseLengths → (Chain → Happened) → Tap → C → Kept → Type 0
+TurnFindsRoom cable base turn at old runs =
+    (events : List Event) (more : List Bool) → HasRoomFor runs at (happened_events (turn (chain_heard cable base at old events more)))
 
 module _ {C K : Type 0} (cable : CableOf C) (sink : SinkOf K) (base : BaseLengths) (said : TurnPlace) where
   -- The turn was played, and its text was put.
@@ -55,7 +65,8 @@ module _ {C K : Type 0} (cable : CableOf C) (sink : SinkOf K) (base : BaseLength
     pub put : Puts sink out (turn_text said base at events) new_out
     pub does : (more : List Bool) → turn (chain_heard cable base at old events more)
         ≡ with_events events (rest (chain_of cable base to new more))
-    pub sums : SumsGoOn runs events (turn_scans said true at events) (turn_scans said false at events) new_runs
+    pub sums : SumsGoOn runs (length (clocks_among events)) (usec_among events) (turn_scans said true at events)
+        (turn_scans said false at events) new_runs
 
   -- A front of the text was put that the turn has at the far end of the cable.
   pub record AccountsFront (turn : Chain → Happened) (at : Tap) (old : C) (out new_out : Lines K) : Type 0 where
@@ -63,10 +74,9 @@ module _ {C K : Type 0} (cable : CableOf C) (sink : SinkOf K) (base : BaseLength
     pub put : (more : List Bool) → PutsFront sink out
         (turn_text said base at (happened_events (turn (chain_heard cable base at old events more)))) new_out
 
-  -- what a call does that plays a turn so, by its result; of a loss nothing is said
-  abbrev pub HasAccounted : (Chain → Happened) → Tap → C → Kept → Lines K → Result Turned AccountFailed → (Went → Chain → Happened) →
+  -- what a call does that plays a turn so, by its result
+  abbrev pub HasAccounted : (Chain → Happened) → Tap → C → Kept → Lines K → Result Turned Failed → (Went → Chain → Happened) →
       C → Kept → Lines K → Type 0
   HasAccounted turn at old runs out (Ok t) rest new new_runs new_out =
       AccountsTurn turn at old runs out (rest t.went) t.tap new new_runs new_out
-  HasAccounted turn at old runs out (Err Write) rest new new_runs new_out = AccountsFront turn at old out new_out
-  HasAccounted turn at old runs out (Err Lost) rest new new_runs new_out = Unit {0}
+  HasAccounted turn at old runs out (Err failed) rest new new_runs new_out = AccountsFront turn at old out new_out

@@ -2,4 +2,3 @@ pub mod AccountTurns
 pub mod RunTexts
 pub mod AccountedTurns
 pub mod AccountedRuns
-pub mod FirstClocks

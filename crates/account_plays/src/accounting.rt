@@ -1,5 +1,5 @@
 //! A turn of a code with the account of its runs.
-ghost use Rattle.std.specs.Prelude.{◌≡◌, IfOk};
+ghost use Rattle.std.specs.Prelude.{◌≡◌, false, IfOk};
 ghost use Rattle.tool_io.specs.Lines.{IsWhole};
 ghost use Rattle.scan_paths.specs.Scans.{lengths_of};
 ghost use Rattle.scan_paths.specs.Cables.{cable_faults, IsCableLast};
@@ -9,25 +9,24 @@ ghost use Rattle.stapl_instructions.specs.Moves.{led_on, IsClean};
 ghost use Rattle.stapl_machine.specs.Turns.{turn_at};
 ghost use Rattle.code_plays.specs.CodePlays.{NeverRises, WasClocked};
 ghost use Rattle.account_plays.specs.AccountTurns.{IsOpenCable, CanPlayTurns};
-ghost use Rattle.account_plays.specs.AccountedTurns.{HasAccounted};
+ghost use Rattle.account_plays.specs.AccountedTurns.{HasAccounted, TurnFindsRoom};
 
-use crate::failures::{AccountFailed, failed};
 use crate::run_lines::put_runs;
 use crate::turns::{Course, Part, Turned, play_kept_part};
 use account_lines::TurnPlace;
 use base::Steps;
+use code_plays::failed;
 use machine_memory::memory::Workspace;
 use run_cable::Runs;
 use scan_paths::Cable;
 use std::sync::ledger::Ledger;
 use tap_states::Tap;
-use tool_io::{Lines, Sink};
+use tool_io::{Failed, Lines, Sink};
 
 /// Plays the turn at a place of a code, from a state of the controllers on and over a cable that never fails, and puts
 /// its text: what it writes besides, and then the lines of its runs, of which this is said.
 ///
-/// `Write` comes only if the sink failed; then a front of the text was put. `Lost` comes if there was no room for the
-/// runs. It takes no memory.
+/// `Failed` as of the sink; then a front of the text was put. It takes no memory.
 pub fn account_turn<C: Cable, K: Sink, L: Ledger>(
     course: &Course<'_>,
     place: u32,
@@ -38,11 +37,14 @@ pub fn account_turn<C: Cable, K: Sink, L: Ledger>(
     runs: &mut Runs,
     out: &mut Lines<K>,
     steps: &mut Steps<L>,
-) -> Result<Turned, AccountFailed>
+) -> Result<Turned, Failed>
     requires ready { CanPlayTurns course.now.code.now work.old }
     requires open { IsOpenCable C.Cable tap cable.old }
     requires sure { NeverRises (cable_faults C.line_faults C.pin_faults) (IsCableLast C.is_line_last C.is_pin_last) }
     requires whole { IsWhole out.old }
+    requires none_lost { runs.old.lost ≡ false }
+    requires room { TurnFindsRoom C.Cable (lengths_of course.now.base)
+        (turn_at course.now.code.now place (state_of course.now.chosen.now work.old)) tap cable.old runs.old }
     ensures accounted { HasAccounted C.Cable K.Sink (lengths_of course.now.base) said
         (turn_at course.now.code.now place (state_of course.now.chosen.now work.old)) tap cable.old runs.old out.old
         result (λ went. led_on went (state_of course.now.chosen.now work.new)) cable.new runs.new out.new }
@@ -64,12 +66,9 @@ pub fn account_turn<C: Cable, K: Sink, L: Ledger>(
         Ok(turned) => {
             runs.close();
             runs.count_scans(said.scans);
-            if runs.is_lost() {
-                return Err(AccountFailed::Lost);
-            }
             match put_runs(out, said, &course.base, &runs.ended()) {
                 Ok(()) => Ok(turned),
-                Err(_) => Err(AccountFailed::Write),
+                Err(failed) => Err(failed),
             }
         }
         Err(trouble) => Err(failed(trouble)),

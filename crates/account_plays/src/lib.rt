@@ -2,7 +2,6 @@
 #![tactic(auto)]
 
 mod accounting;
-mod failures;
 mod playing;
 mod resetting;
 mod run_lines;
@@ -10,8 +9,7 @@ mod running;
 mod turns;
 
 pub use accounting::account_turn;
-pub use failures::AccountFailed;
 pub use playing::account_run;
 pub use resetting::account_reset;
-pub use running::account_turns;
+pub use running::{Over, account_turns};
 pub use turns::{Course, Turned};

@@ -10,6 +10,7 @@ use Rattle.dev_card.specs.Board.{Clock, Input, tdos}
 use Rattle.dev_card.specs.Clocks.{clocks_with, still_inputs, part_inputs, is_nil}
 use Rattle.scan_paths.specs.Cables.{Signal, Pulses, Waits, Tunes, pulsed, clocks_in, input_of}
 use Rattle.scan_accounts.specs.ShiftRuns.{ShiftRun, shifting, runs_with, shift_runs}
+use Rattle.scan_accounts.specs.AccountTexts.{counted}
 use Rattle.run_cable.specs.HeardRuns.{Heard, grown, grown_by, last_run, all_runs, shifted_on, stilled, heard_clock, heard_signal, heard_all}
 use Rattle.run_cable.specs.RunCableLaws.{heard_both}
 
@@ -75,26 +76,35 @@ runs_are signals h none still =
 
 -- ---- clocks with TMS 0 that keep the controllers in their state
 
-abbrev pub counted : ℕ → Heard → Heard
-counted n h = record h { clocks = h.clocks + n }
+-- a sum of clocks after so many clocks more, one after another, and at once
+abbrev ticked : ℕ → ℕ → ℕ
+ticked zero c = c
+ticked (suc n) c = ticked n (counted (c + 1))
+
+ticked_at_once : (n c : ℕ) → ticked (suc n) c ≡ counted (c + suc n)
+ticked_at_once zero c = refl
+ticked_at_once (suc n) c = ticked_at_once n (counted (c + 1)) ∙ counted_twice c (suc n)
+  where
+    counted_twice : (c m : ℕ) → counted (counted (c + 1) + m) ≡ counted (c + suc m)
+    counted_twice c m = omega arith
+
+-- so many clocks more
+abbrev clocked : ℕ → Heard → Heard
+clocked n h = record h { clocks = ticked n h.clocks }
 
 one_still : (h : Heard) (b c : Bool) → next_of h.tap false ≡ h.tap →
-    heard_clock h (record { tms = false; tdi = b; tdo = c }) ≡ counted 1 (shifted_on (shifting h.tap) (shifting h.tap) b c h)
+    heard_clock h (record { tms = false; tdi = b; tdo = c }) ≡ clocked 1 (shifted_on (shifting h.tap) (shifting h.tap) b c h)
 one_still h b c e = by (next_of h.tap false) e
   where
-    of : (o : Option Bool) → record (shifted_on o o b c h) { tap = h.tap; clocks = h.clocks + 1 } ≡ counted 1 (shifted_on o o b c h)
+    of : (o : Option Bool) → record (shifted_on o o b c h) { tap = h.tap; clocks = counted (h.clocks + 1) } ≡ clocked 1 (shifted_on o o b c h)
     of None = refl
     of (Some ir) = refl
 
-    by : (t : Tap) → t ≡ h.tap → record (shifted_on (shifting h.tap) (shifting t) b c h) { tap = t; clocks = h.clocks + 1 }
-        ≡ counted 1 (shifted_on (shifting h.tap) (shifting h.tap) b c h)
-    by t e = ap (λ (t : Tap). let x : Heard = record (shifted_on (shifting h.tap) (shifting t) b c h) { tap = t; clocks = h.clocks + 1 } in x) e ∙ of (shifting h.tap)
-
-counts_added : (n m : ℕ) → (n + 1) + m ≡ n + suc m
-counts_added n m = omega arith
-
-plus_nothing : (n : ℕ) → n + 0 ≡ n
-plus_nothing n = omega arith
+    by : (t : Tap) → t ≡ h.tap → record (shifted_on (shifting h.tap) (shifting t) b c h) { tap = t; clocks = counted (h.clocks + 1) }
+        ≡ clocked 1 (shifted_on (shifting h.tap) (shifting h.tap) b c h)
+    by t e =
+        ap (λ (t : Tap). let x : Heard = record (shifted_on (shifting h.tap) (shifting t) b c h) { tap = t; clocks = counted (h.clocks + 1) } in x) e
+        ∙ of (shifting h.tap)
 
 tap_stays : (now next : Option Bool) (b c : Bool) (h : Heard) → (shifted_on now next b c h).tap ≡ h.tap
 tap_stays None next b c h = refl
@@ -109,31 +119,28 @@ grown_twice ir b c ins outs (Some run) =
     (append_assoc run.bits_in (b ∷ []) ins) (append_assoc run.bits_out (c ∷ []) outs)
 
 still_next : (o : Option Bool) (b c : Bool) (ins outs : List Bool) (h : Heard) → length ins ≡ length outs →
-    counted (length ins) (stilled o ins outs (counted 1 (shifted_on o o b c h))) ≡ counted (suc (length ins)) (stilled o (b ∷ ins) (c ∷ outs) h)
-still_next None b c ins outs h e = ap (λ n. let x : Heard = record h { clocks = n } in x) (counts_added h.clocks (length ins))
-still_next (Some ir) b c [] [] h e =
-    ap (λ n. let x : Heard = record (grown_by ir (b ∷ []) (c ∷ []) h) { clocks = n } in x) (counts_added h.clocks 0)
+    clocked (length ins) (stilled o ins outs (clocked 1 (shifted_on o o b c h))) ≡ clocked (suc (length ins)) (stilled o (b ∷ ins) (c ∷ outs) h)
+still_next None b c ins outs h e = refl
+still_next (Some ir) b c [] [] h e = refl
 still_next (Some ir) b c [] (x ∷ outs) h e = absurd cc
 still_next (Some ir) b c (d ∷ ins) outs h e =
-    ap₂ (λ n run. let x : Heard = record h { going = Some run; clocks = n } in x) (counts_added h.clocks (suc (length ins))) (grown_twice ir b c (d ∷ ins) outs h.going)
+    ap (λ run. let x : Heard = record h { going = Some run; clocks = ticked (suc (suc (length ins))) h.clocks } in x)
+    (grown_twice ir b c (d ∷ ins) outs h.going)
 
-none_counted : (h : Heard) → h ≡ counted 0 h
-none_counted h = ap (λ n. let x : Heard = record h { clocks = n } in x) (sym (plus_nothing h.clocks))
-
-pub still_heard : (ins outs : List Bool) (h : Heard) → next_of h.tap false ≡ h.tap → length ins ≡ length outs →
-    heard_all h (pulsed (clocks_with (still_inputs ins) outs)) ≡ counted (length ins) (stilled (shifting h.tap) ins outs h)
+still_heard : (ins outs : List Bool) (h : Heard) → next_of h.tap false ≡ h.tap → length ins ≡ length outs →
+    heard_all h (pulsed (clocks_with (still_inputs ins) outs)) ≡ clocked (length ins) (stilled (shifting h.tap) ins outs h)
 still_heard [] outs h e len = by (shifting h.tap)
   where
-    by : (o : Option Bool) → h ≡ counted 0 (stilled o [] outs h)
-    by None = none_counted h
-    by (Some ir) = none_counted h
+    by : (o : Option Bool) → h ≡ clocked 0 (stilled o [] outs h)
+    by None = refl
+    by (Some ir) = refl
 still_heard (b ∷ ins) [] h e len = absurd cc
 still_heard (b ∷ ins) (c ∷ outs) h e len =
-    let o : Option Bool = shifting h.tap in let once : Heard = counted 1 (shifted_on o o b c h) in
+    let o : Option Bool = shifting h.tap in let once : Heard = clocked 1 (shifted_on o o b c h) in
     let same : once.tap ≡ h.tap = tap_stays o o b c h in
     ap (λ x. heard_all x (pulsed (clocks_with (still_inputs ins) outs))) (one_still h b c e)
     ∙ still_heard ins outs once (ap (λ t. next_of t false) same ∙ e ∙ sym same) (omega (arith, len))
-    ∙ ap (λ t. counted (length ins) (stilled (shifting t) ins outs once)) same
+    ∙ ap (λ t. clocked (length ins) (stilled (shifting t) ins outs once)) same
     ∙ still_next o b c ins outs h (omega (arith, len))
 
 -- ---- what stays
@@ -171,33 +178,37 @@ scans_stay (Pulses k ∷ signals) h =
 
 -- a clock is its shift and a step of the controllers
 pub one_heard : (h mid new : Heard) (k : Clock) (to : Tap) → to ≡ next_of h.tap k.tms →
-    mid ≡ shifted_on (shifting h.tap) (shifting to) k.tdi k.tdo h → new ≡ record mid { tap = to; clocks = mid.clocks + 1 } →
+    mid ≡ shifted_on (shifting h.tap) (shifting to) k.tdi k.tdo h → new ≡ record mid { tap = to; clocks = counted (mid.clocks + 1) } →
     new ≡ heard_clock h k
 one_heard h mid new k to e f g =
-    let with : Tap → Heard → Heard = λ (t : Tap) (x : Heard). record x { tap = t; clocks = x.clocks + 1 } in
+    let with : Tap → Heard → Heard = λ (t : Tap) (x : Heard). record x { tap = t; clocks = counted (x.clocks + 1) } in
     let shifted : Tap → Heard = λ (t : Tap). shifted_on (shifting h.tap) (shifting t) k.tdi k.tdo h in
     g ∙ ap (with to) f ∙ ap (λ (t : Tap). with t (shifted t)) e
     ∙ ap (λ n. let x : Heard = record (shifted (next_of h.tap k.tms)) { tap = next_of h.tap k.tms; clocks = n } in x)
-    (ap (λ n. n + 1) (clocks_stay (shifting h.tap) (shifting (next_of h.tap k.tms)) k.tdi k.tdo h))
+    (ap (λ n. counted (n + 1)) (clocks_stay (shifting h.tap) (shifting (next_of h.tap k.tms)) k.tdi k.tdo h))
 
 -- clocks with TMS 0 are the bits that are added and a step that leaves the controllers in their state
-stays_still : (o : Option Bool) (ins outs : List Bool) (h : Heard) (n : ℕ) → length ins ≡ n →
-    record (stilled o ins outs h) { tap = h.tap; clocks = (stilled o ins outs h).clocks + n } ≡ counted (length ins) (stilled o ins outs h)
-stays_still None ins outs h n e = ap (λ m. let x : Heard = record h { clocks = h.clocks + m } in x) (sym e)
-stays_still (Some ir) [] outs h n e = ap (λ m. let x : Heard = record h { clocks = h.clocks + m } in x) (sym e)
-stays_still (Some ir) (b ∷ ins) outs h n e =
-    ap (λ m. let x : Heard = record (grown_by ir (b ∷ ins) outs h) { clocks = h.clocks + m } in x) (sym e)
+stays_still : (o : Option Bool) (ins outs : List Bool) (h : Heard) (n : ℕ) → 1 ≤ n → length ins ≡ n →
+    record (stilled o ins outs h) { tap = h.tap; clocks = counted ((stilled o ins outs h).clocks + n) } ≡ clocked (length ins) (stilled o ins outs h)
+stays_still o [] outs h n some e = absurd (omega (arith, some, e))
+stays_still None (b ∷ ins) outs h n some e =
+    ap (λ m. let x : Heard = record h { clocks = counted (h.clocks + m) } in x) (sym e)
+    ∙ ap (λ m. let x : Heard = record h { clocks = m } in x) (sym (ticked_at_once (length ins) h.clocks))
+stays_still (Some ir) (b ∷ ins) outs h n some e =
+    ap (λ m. let x : Heard = record (grown_by ir (b ∷ ins) outs h) { clocks = counted (h.clocks + m) } in x) (sym e)
+    ∙ ap (λ m. let x : Heard = record (grown_by ir (b ∷ ins) outs h) { clocks = m } in x) (sym (ticked_at_once (length ins) h.clocks))
 
-pub stills_heard : (h mid new : Heard) (ins outs : List Bool) (n : ℕ) → next_of h.tap false ≡ h.tap → length ins ≡ n → length outs ≡ n →
-    mid ≡ stilled (shifting h.tap) ins outs h → new ≡ record mid { tap = h.tap; clocks = mid.clocks + n } →
+pub stills_heard : (h mid new : Heard) (ins outs : List Bool) (n : ℕ) → 1 ≤ n → next_of h.tap false ≡ h.tap → length ins ≡ n → length outs ≡ n →
+    mid ≡ stilled (shifting h.tap) ins outs h → new ≡ record mid { tap = h.tap; clocks = counted (mid.clocks + n) } →
     new ≡ heard_all h (pulsed (clocks_with (still_inputs ins) outs))
-stills_heard h mid new ins outs n e li lo f g =
-    g ∙ ap (λ (x : Heard). let y : Heard = record x { tap = h.tap; clocks = x.clocks + n } in y) f
-    ∙ stays_still (shifting h.tap) ins outs h n li ∙ sym (still_heard ins outs h e (li ∙ sym lo))
+stills_heard h mid new ins outs n some e li lo f g =
+    g ∙ ap (λ (x : Heard). let y : Heard = record x { tap = h.tap; clocks = counted (x.clocks + n) } in y) f
+    ∙ stays_still (shifting h.tap) ins outs h n some li ∙ sym (still_heard ins outs h e (li ∙ sym lo))
 
--- no clock
-pub none_heard : (h : Heard) (outs : List Bool) → h ≡ heard_all h (pulsed (clocks_with (still_inputs []) outs))
-none_heard h outs = refl
+-- all runs are then those with the bits that are added
+pub still_runs : (h : Heard) (ins outs : List Bool) → next_of h.tap false ≡ h.tap → length ins ≡ length outs →
+    all_runs (heard_all h (pulsed (clocks_with (still_inputs ins) outs))) ≡ all_runs (stilled (shifting h.tap) ins outs h)
+still_runs h ins outs e len = ap all_runs (still_heard ins outs h e len)
 
 -- bits that are added where registers shift
 pub grown_still : (ir : Bool) (ins outs : List Bool) (h : Heard) → 1 ≤ length ins → grown_by ir ins outs h ≡ stilled (Some ir) ins outs h
@@ -223,6 +234,15 @@ block_cut (x ∷ ins) (y ∷ outs) b c e =
     not_last [] b = refl
     not_last (x ∷ ins) b = refl
 
+still_cut : (ins outs : List Bool) (b c : Bool) → length ins ≡ length outs →
+    clocks_with (still_inputs (ins ++ b ∷ [])) (outs ++ c ∷ [])
+    ≡ clocks_with (still_inputs ins) outs ++ record { tms = false; tdi = b; tdo = c } ∷ []
+still_cut [] [] b c e = refl
+still_cut [] (y ∷ outs) b c e = absurd cc
+still_cut (x ∷ ins) [] b c e = absurd cc
+still_cut (x ∷ ins) (y ∷ outs) b c e =
+    ap (λ (ks : List Clock). record { tms = false; tdi = x; tdo = y } ∷ ks) (still_cut ins outs b c (omega (arith, e)))
+
 pub pulsed_both : (ks js : List Clock) → pulsed (ks ++ js) ≡ pulsed ks ++ pulsed js
 pulsed_both [] js = refl
 pulsed_both (k ∷ ks) js = ap (λ ss. Pulses k ∷ ss) (pulsed_both ks js)
@@ -246,14 +266,27 @@ count_of_inputs last (b ∷ bits) = ap suc (count_of_inputs last bits)
 next_bit : (m z : ℕ) → low_bits (m + 1) z ≡ low_bits m z ++ nat_eq (z / 2 ^ m % 2) 1 ∷ []
 next_bit m z = low_bits_cut m 1 z
 
-pub whole_block : (h : Heard) (m tdi tdo : ℕ) →
-    heard_all (heard_all h (pulsed (clocks_with (still_inputs (low_bits m tdi)) (low_bits m tdo))))
-    (Pulses (record { tms = true; tdi = nat_eq (tdi / 2 ^ m % 2) 1; tdo = nat_eq (tdo / 2 ^ m % 2) 1 }) ∷ [])
-    ≡ heard_all h (pulsed (clocks_with (part_inputs true (low_bits (m + 1) tdi)) (low_bits (m + 1) tdo)))
-whole_block h m tdi tdo =
+-- the last clock of a block, and of clocks with TMS 0
+pub last_of_block : (m tdi tdo : ℕ) →
+    pulsed (clocks_with (still_inputs (low_bits m tdi)) (low_bits m tdo))
+    ++ Pulses (record { tms = true; tdi = nat_eq (tdi / 2 ^ m % 2) 1; tdo = nat_eq (tdo / 2 ^ m % 2) 1 }) ∷ []
+    ≡ pulsed (clocks_with (part_inputs true (low_bits (m + 1) tdi)) (low_bits (m + 1) tdo))
+last_of_block m tdi tdo =
     let b : Bool = nat_eq (tdi / 2 ^ m % 2) 1 in let c : Bool = nat_eq (tdo / 2 ^ m % 2) 1 in
     let still : List Clock = clocks_with (still_inputs (low_bits m tdi)) (low_bits m tdo) in
     let last : List Clock = record { tms = true; tdi = b; tdo = c } ∷ [] in
-    sym (heard_both h (pulsed still) (pulsed last)) ∙ ap (heard_all h) (sym (pulsed_both still last))
-    ∙ ap (λ ks. heard_all h (pulsed ks)) (sym (block_cut (low_bits m tdi) (low_bits m tdo) b c (length-low_bits m tdi ∙ sym (length-low_bits m tdo))))
-    ∙ ap₂ (λ ins outs. heard_all h (pulsed (clocks_with (part_inputs true ins) outs))) (sym (next_bit m tdi)) (sym (next_bit m tdo))
+    sym (pulsed_both still last)
+    ∙ ap pulsed (sym (block_cut (low_bits m tdi) (low_bits m tdo) b c (length-low_bits m tdi ∙ sym (length-low_bits m tdo))))
+    ∙ ap₂ (λ ins outs. pulsed (clocks_with (part_inputs true ins) outs)) (sym (next_bit m tdi)) (sym (next_bit m tdo))
+
+pub last_of_still : (m tdi tdo : ℕ) →
+    pulsed (clocks_with (still_inputs (low_bits m tdi)) (low_bits m tdo))
+    ++ Pulses (record { tms = false; tdi = nat_eq (tdi / 2 ^ m % 2) 1; tdo = nat_eq (tdo / 2 ^ m % 2) 1 }) ∷ []
+    ≡ pulsed (clocks_with (still_inputs (low_bits (m + 1) tdi)) (low_bits (m + 1) tdo))
+last_of_still m tdi tdo =
+    let b : Bool = nat_eq (tdi / 2 ^ m % 2) 1 in let c : Bool = nat_eq (tdo / 2 ^ m % 2) 1 in
+    let still : List Clock = clocks_with (still_inputs (low_bits m tdi)) (low_bits m tdo) in
+    let last : List Clock = record { tms = false; tdi = b; tdo = c } ∷ [] in
+    sym (pulsed_both still last)
+    ∙ ap pulsed (sym (still_cut (low_bits m tdi) (low_bits m tdo) b c (length-low_bits m tdi ∙ sym (length-low_bits m tdo))))
+    ∙ ap₂ (λ ins outs. pulsed (clocks_with (still_inputs ins) outs)) (sym (next_bit m tdi)) (sym (next_bit m tdo))

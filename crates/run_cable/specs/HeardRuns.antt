@@ -7,9 +7,11 @@ use Rattle.tap_states.specs.Tap.{next_of}
 use Rattle.dev_card.specs.Board.{Clock}
 use Rattle.scan_paths.specs.Cables.{Signal, Pulses, Waits, Tunes}
 use Rattle.scan_accounts.specs.ShiftRuns.{ShiftRun, shifting}
+use Rattle.scan_accounts.specs.AccountTexts.{counted}
 
 -- The state of the controllers, the runs that are over, the run that goes on, if one does, how many clocks were made and
--- microseconds waited in all, and how many runs of both kinds of registers were counted as scans.
+-- microseconds waited in all, and how many runs of both kinds of registers were counted as scans. Each sum ends at the
+-- largest one that is written.
 pub record Heard : Type 0 where
   pub tap : Tap
   pub ended : List ShiftRun
@@ -40,8 +42,8 @@ closed h = record h { ended = all_runs h; going = None }
 abbrev pub scans_counted : Bool → Heard → Heard
 scans_counted false h = h
 scans_counted true h = record h {
-  ir_scans = h.ir_scans + count_by (λ (r : ShiftRun). beq r.ir true) h.ended;
-  dr_scans = h.dr_scans + count_by (λ (r : ShiftRun). beq r.ir false) h.ended;
+  ir_scans = counted (h.ir_scans + count_by (λ (r : ShiftRun). beq r.ir true) h.ended);
+  dr_scans = counted (h.dr_scans + count_by (λ (r : ShiftRun). beq r.ir false) h.ended);
 }
 
 -- a run that goes on is over if no register shifts at the next clock
@@ -69,13 +71,13 @@ abbrev pub heard_clock : Heard → Clock → Heard
 heard_clock h k =
     record (shifted_on (shifting h.tap) (shifting (next_of h.tap k.tms)) k.tdi k.tdo h) {
       tap = next_of h.tap k.tms;
-      clocks = h.clocks + 1;
+      clocks = counted (h.clocks + 1);
     }
 
 -- after a signal, and after signals, one after another
 abbrev pub heard_signal : Heard → Signal → Heard
 heard_signal h (Pulses k) = heard_clock h k
-heard_signal h (Waits n) = record h { usec = h.usec + n }
+heard_signal h (Waits n) = record h { usec = counted (h.usec + n) }
 heard_signal h (Tunes n) = h
 
 abbrev pub heard_all : Heard → List Signal → Heard

@@ -2,9 +2,9 @@
 use Rattle.std.specs.Prelude.{◌≡◌, ℕ, List, Option}
 use Rattle.std.specs.Borrow.{MutBor}
 use Rattle.dev_card.specs.Card.{Card}
-use Rattle.scan_paths.specs.Cables.{Signal, Breakage}
+use Rattle.scan_paths.specs.Cables.{Signal, Breakage, whole}
 use Rattle.run_cable.specs.declared.run_cable.RunCable.{RunCable}
-use Rattle.run_cable.specs.KeptRuns.{Kept, Hears}
+use Rattle.run_cable.specs.KeptRuns.{Kept, Hears, HearsIfRoom}
 
 abbrev pub cable_of : {C : Type 0} → RunCable C → C
 cable_of c = c.cable.now
@@ -25,10 +25,13 @@ pub record IsNewRunCable {C R : Type 0} (over_cable : MutBor C) (kept : MutBor R
   pub same_runs : KeepsIn c kept
   pub cable : cable_of c ≡ over_cable.now
 
--- Signals were made on the cable, and heard.
-pub record LeadsRuns {C : Type 0} (makes : C → List Signal → C → Type 0) (old : RunCable C) (signals : List Signal)
-    (new : RunCable C) : Type 0 where
+-- Signals were made on the cable, and heard. Where the cable is whole then, it was before, and nothing was lost for want
+-- of anything but room.
+pub record LeadsRuns {C : Type 0} (makes : C → List Signal → C → Type 0) (breakage : C → Breakage) (old : RunCable C)
+    (signals : List Signal) (new : RunCable C) : Type 0 where
   pub same_cable : new.cable.ghost_name ≡ old.cable.ghost_name
   pub same_runs : new.runs.ghost_name ≡ old.runs.ghost_name
   pub made : makes (cable_of old) signals (cable_of new)
   pub heard : Hears (runs_of old) signals (runs_of new)
+  pub was_whole : breakage (cable_of new) ≡ whole → breakage (cable_of old) ≡ whole
+  pub fits : breakage (cable_of new) ≡ whole → HearsIfRoom (runs_of old) signals (runs_of new)

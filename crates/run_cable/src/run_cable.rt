@@ -30,7 +30,7 @@ impl<C: Cable> Cable for RunCable<'_, C> {
 
     ghost board = { λ c. C.board (cable_of c) };
 
-    ghost made = { LeadsRuns C.made };
+    ghost made = { LeadsRuns C.made C.breakage };
 
     ghost line_faults = { λ c. C.line_faults (cable_of c) };
 
@@ -93,8 +93,8 @@ impl<C: Cable> Cable for RunCable<'_, C> {
 
     ghost sound = { λ c cs told. C.sound (cable_of c) cs told };
 
-    ghost none_made = { λ c. nothing_leads C.made c (C.none_made (cable_of c)) };
+    ghost none_made = { λ c. nothing_leads C.made C.breakage c (C.none_made (cable_of c)) };
 
-    ghost both_made = { λ a b c front back p q. both_lead C.made a b c front back
+    ghost both_made = { λ a b c front back p q. both_lead C.made C.breakage a b c front back
         (C.both_made (cable_of a) (cable_of b) (cable_of c) front back) p q };
 }

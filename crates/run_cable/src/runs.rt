@@ -9,8 +9,9 @@ ghost use Rattle.dev_card.specs.Clocks.{clocks_with, still_inputs};
 ghost use Rattle.dev_card.specs.Blocks.{block_inputs};
 ghost use Rattle.scan_paths.specs.Cables.{Pulses, Waits, pulsed};
 ghost use Rattle.scan_accounts.specs.ShiftRuns.{shifting};
-ghost use Rattle.run_cable.specs.HeardRuns.{grown_by, closed, shifted_on, stilled, scans_counted};
-ghost use Rattle.run_cable.specs.KeptRuns.{Becomes, Hears, begun};
+ghost use Rattle.scan_accounts.specs.AccountTexts.{counted};
+ghost use Rattle.run_cable.specs.HeardRuns.{grown_by, closed, shifted_on, stilled, scans_counted, heard_signal};
+ghost use Rattle.run_cable.specs.KeptRuns.{Becomes, StaysIfRoom, Hears, HearsIfRoom, begun};
 ghost use Rattle.run_cable.specs.EndedRuns.{runs_in, AreInside};
 
 use crate::run_place::RunPlace;
@@ -19,7 +20,7 @@ use std::alloc::{AllocError, Global};
 use std::marker::Model;
 use tap_states::Tap;
 
-// The most clocks, and the most microseconds, that are counted.
+// The largest sum that is kept.
 const MOST: u64 = 9_223_372_036_854_775_807;
 
 /// Runs that are over: where their bits stand in the lists of TDI and TDO bits.
@@ -31,7 +32,7 @@ pub struct EndedRuns<'a> {
 }
 
 /// The runs of the clocks that were made since a state of the controllers, and sums, in memory that is taken at once.
-/// If there was no room for a run, what is kept is lost, and this is told.
+/// If there was no room for a run, what is kept is lost, and this is told. A sum ends at the largest that is written.
 #[derive(Drop)]
 pub struct Runs {
     tap: Tap,
@@ -48,7 +49,7 @@ pub struct Runs {
 }
 
 impl Model for Runs {
-    ghost use Rattle.std.specs.Prelude.{◌-◌, length, map, vec_capacity};
+    ghost use Rattle.std.specs.Prelude.{length, map, vec_capacity};
     ghost use Rattle.std.specs.Option.{option_map};
     ghost use Rattle.run_cable.specs.KeptRuns.{Kept, run_at, IsLaid};
 
@@ -65,11 +66,18 @@ impl Model for Runs {
         dr_scans = r.dr_scans;
       };
       lost = r.lost;
-      bits_left = length r.bits_in - r.free;
-      runs_left = vec_capacity r.ended - length r.ended.items;
+      room = record { bits = length r.bits_in; runs = vec_capacity r.ended };
     } };
 
-    ghost invariant = { λ r. IsLaid r.free r.ended.items r.going r.bits_in r.bits_out r.clocks r.usec r.ir_scans r.dr_scans };
+    ghost invariant = { λ r. IsLaid r.free r.ended.items r.going r.bits_in r.bits_out (record {
+      tap = r.tap;
+      ended = map (run_at r.bits_in r.bits_out) r.ended.items;
+      going = option_map (run_at r.bits_in r.bits_out) r.going;
+      clocks = r.clocks;
+      usec = r.usec;
+      ir_scans = r.ir_scans;
+      dr_scans = r.dr_scans;
+    }) };
 }
 
 // The registers that shift at a clock before which the controllers stand in this state: true for the instruction
@@ -101,11 +109,22 @@ fn stays(tap: Tap) -> bool
     }
 }
 
+// A sum with more in it, which ends at the largest that is kept.
+fn added(sum: u64, more: u64) -> u64
+    requires { sum < 2 ^ 63 }
+    ensures value { result ≡ counted (sum + more) }
+    ensures few { result < 2 ^ 63 }
+{
+    if more > MOST - sum { MOST } else { sum + more }
+}
+
 impl Runs {
     /// No run and no clock, from the reset state on, and room for so many bits and for so many runs.
     pub fn new(alloc: Global, bits: u32, runs: usize) -> Result<Runs, AllocError>
         requires { bits ≤ MOST_BITS }
         ensures none_lost { IfOk result (λ r. r.lost ≡ false) }
+        ensures bits { IfOk result (λ r. r.room.bits ≡ bits) }
+        ensures runs { IfOk result (λ r. runs ≤ r.room.runs) }
         ensures clocks { IfOk result (λ r. r.heard.clocks ≡ 0) }
         ensures usec { IfOk result (λ r. r.heard.usec ≡ 0) }
         ensures ir_scans { IfOk result (λ r. r.heard.ir_scans ≡ 0) }
@@ -138,20 +157,12 @@ impl Runs {
 
     /// No run any more, and the controllers are in this state. The sums stay.
     pub fn begin(&mut self, tap: Tap)
-        ensures lost { self.new.lost ≡ self.old.lost }
-        ensures heard { self.new.heard ≡ begun tap self.old.heard }
+        ensures { self.new ≡ record self.old { heard = begun tap self.old.heard } }
     {
         self.tap = tap;
         self.ended.clear();
         self.going = None;
         self.free = 0;
-    }
-
-    /// Whether there was no room for what was heard.
-    pub fn is_lost(&self) -> bool
-        ensures { result ≡ self.now.lost }
-    {
-        self.lost
     }
 
     /// What is kept is lost.
@@ -195,27 +206,19 @@ impl Runs {
 
     /// Counts the runs that are over as scans, if they are such.
     pub fn count_scans(&mut self, scans: bool)
-        ensures { Becomes self.old (scans_counted scans self.old.heard) self.new }
+        ensures { self.new ≡ record self.old { heard = scans_counted scans self.old.heard } }
     {
-        if !scans {
-            return;
+        if scans {
+            self.ir_scans = added(self.ir_scans, count_of(&self.ended, true) as u64);
+            self.dr_scans = added(self.dr_scans, count_of(&self.ended, false) as u64);
         }
-        let ir = count_of(&self.ended, true) as u64;
-        let dr = count_of(&self.ended, false) as u64;
-        if ir > MOST - self.ir_scans || dr > MOST - self.dr_scans {
-            self.lost = true;
-            return;
-        }
-        self.ir_scans += ir;
-        self.dr_scans += dr;
     }
 
     // Adds the lowest n bits of two numbers to the run that goes on, or begins one with them.
     fn grow(&mut self, ir: bool, tdi: u64, tdo: u64, n: u32)
         requires { n ≤ 64 }
         ensures grown { Becomes self.old (grown_by ir (low_bits n tdi) (low_bits n tdo) self.old.heard) self.new }
-        ensures room { self.new.runs_left ≡ self.old.runs_left }
-        ensures fits { self.old.lost ≡ false → n ≤ self.old.bits_left → self.new.lost ≡ false }
+        ensures fits { StaysIfRoom self.old (grown_by ir (low_bits n tdi) (low_bits n tdo) self.old.heard) self.new }
     {
         if n > self.bits_in.len() - self.free {
             self.lost = true;
@@ -242,7 +245,7 @@ impl Runs {
     /// The run that goes on, if one does, is over.
     pub fn close(&mut self)
         ensures closed { Becomes self.old (closed self.old.heard) self.new }
-        ensures fits { self.old.lost ≡ false → 1 ≤ self.old.runs_left → self.new.lost ≡ false }
+        ensures fits { StaysIfRoom self.old (closed self.old.heard) self.new }
     {
         let Some(at) = self.going else {
             return;
@@ -257,23 +260,23 @@ impl Runs {
 
     // The controllers are in this state after n clocks.
     fn pass(&mut self, next: Tap, n: u32)
-        ensures passed { Becomes self.old
-            (record self.old.heard { tap = next; clocks = self.old.heard.clocks + n }) self.new }
-        ensures fits { self.old.lost ≡ false → self.old.heard.clocks + n < 2 ^ 63 → self.new.lost ≡ false }
+        ensures { self.new ≡ record self.old {
+          heard = record self.old.heard {
+            tap = next;
+            clocks = counted (self.old.heard.clocks + n);
+          };
+        } }
     {
-        if u64::from(n) > MOST - self.clocks {
-            self.lost = true;
-            return;
-        }
         self.tap = next;
-        self.clocks += u64::from(n);
+        self.clocks = added(self.clocks, u64::from(n));
     }
 
     // The registers that shift at a clock, with the bits of it.
     fn shift(&mut self, next: Tap, tdi: bool, tdo: bool)
         ensures shifted { Becomes self.old
             (shifted_on (shifting self.old.heard.tap) (shifting next) tdi tdo self.old.heard) self.new }
-        ensures fits { self.old.lost ≡ false → 1 ≤ self.old.bits_left → 1 ≤ self.old.runs_left → self.new.lost ≡ false }
+        ensures fits { StaysIfRoom self.old
+            (shifted_on (shifting self.old.heard.tap) (shifting next) tdi tdo self.old.heard) self.new }
     {
         if let Some(ir) = shifting(self.tap) {
             self.grow(ir, u64::from(tdi), u64::from(tdo), 1);
@@ -286,8 +289,7 @@ impl Runs {
     /// Hears a clock.
     pub fn hear(&mut self, tms: bool, tdi: bool, tdo: bool)
         ensures heard { Hears self.old (Pulses (record { tms = tms; tdi = tdi; tdo = tdo }) ∷ []) self.new }
-        ensures fits { self.old.lost ≡ false → 1 ≤ self.old.bits_left → 1 ≤ self.old.runs_left →
-            self.old.heard.clocks + 1 < 2 ^ 63 → self.new.lost ≡ false }
+        ensures fits { HearsIfRoom self.old (Pulses (record { tms = tms; tdi = tdi; tdo = tdo }) ∷ []) self.new }
     {
         let next = self.tap.next(tms);
         self.shift(next, tdi, tdo);
@@ -300,51 +302,65 @@ impl Runs {
         requires most { n ≤ 64 }
         ensures grown { Becomes self.old
             (stilled (shifting self.old.heard.tap) (low_bits n tdi) (low_bits n tdo) self.old.heard) self.new }
-        ensures fits { self.old.lost ≡ false → n ≤ self.old.bits_left → self.new.lost ≡ false }
+        ensures fits { StaysIfRoom self.old
+            (stilled (shifting self.old.heard.tap) (low_bits n tdi) (low_bits n tdo) self.old.heard) self.new }
     {
         if let Some(ir) = shifting(self.tap) {
             self.grow(ir, tdi, tdo, n);
         }
     }
 
-    /// Hears n clocks with TMS 0, which keeps the controllers in their state: with the lowest bits of two numbers as TDI
-    /// and TDO, the lowest first. What is kept is lost if the controllers leave their state with TMS 0.
-    pub fn hear_still(&mut self, tdi: u64, tdo: u64, n: u32)
+    // Hears n clocks with TMS 0, one after another: with the lowest bits of two numbers as TDI and TDO, the lowest first.
+    fn hear_each(&mut self, tdi: u64, tdo: u64, n: u32)
         requires { n ≤ 64 }
         ensures heard { Hears self.old (pulsed (clocks_with (still_inputs (low_bits n tdi)) (low_bits n tdo))) self.new }
-        ensures fits { self.old.lost ≡ false → next_of self.old.heard.tap false ≡ self.old.heard.tap →
-            n ≤ self.old.bits_left → self.old.heard.clocks + n < 2 ^ 63 → self.new.lost ≡ false }
+        ensures fits { HearsIfRoom self.old (pulsed (clocks_with (still_inputs (low_bits n tdi)) (low_bits n tdo))) self.new }
+    {
+        for i in 0..n {
+            self.hear(false, (tdi >> i) % 2 == 1, (tdo >> i) % 2 == 1);
+        }
+    }
+
+    // The same in a state in which TMS 0 keeps the controllers.
+    fn hear_at_once(&mut self, tdi: u64, tdo: u64, n: u32)
+        requires some { 1 ≤ n }
+        requires most { n ≤ 64 }
+        requires stays { next_of self.old.heard.tap false ≡ self.old.heard.tap }
+        ensures heard { Hears self.old (pulsed (clocks_with (still_inputs (low_bits n tdi)) (low_bits n tdo))) self.new }
+        ensures fits { HearsIfRoom self.old (pulsed (clocks_with (still_inputs (low_bits n tdi)) (low_bits n tdo))) self.new }
     {
         let tap = self.tap;
-        if !stays(tap) {
-            self.lost = true;
-            return;
-        }
-        if n == 0 {
-            return;
-        }
         self.grow_shifting(tdi, tdo, n);
         self.pass(tap, n);
     }
 
+    /// Hears n clocks with TMS 0: with the lowest bits of two numbers as TDI and TDO, the lowest first.
+    pub fn hear_still(&mut self, tdi: u64, tdo: u64, n: u32)
+        requires { n ≤ 64 }
+        ensures heard { Hears self.old (pulsed (clocks_with (still_inputs (low_bits n tdi)) (low_bits n tdo))) self.new }
+        ensures fits { HearsIfRoom self.old (pulsed (clocks_with (still_inputs (low_bits n tdi)) (low_bits n tdo))) self.new }
+    {
+        if n != 0 && stays(self.tap) {
+            self.hear_at_once(tdi, tdo, n);
+        } else {
+            self.hear_each(tdi, tdo, n);
+        }
+    }
+
     /// Hears a wait of n microseconds.
     pub fn pause(&mut self, n: u32)
-        ensures heard { Hears self.old (Waits n ∷ []) self.new }
-        ensures fits { self.old.lost ≡ false → self.old.heard.usec + n < 2 ^ 63 → self.new.lost ≡ false }
+        ensures { self.new ≡ record self.old { heard = heard_signal self.old.heard (Waits n) } }
     {
-        if u64::from(n) > MOST - self.usec {
-            self.lost = true;
-            return;
-        }
-        self.usec += u64::from(n);
+        self.usec = added(self.usec, u64::from(n));
     }
 
     /// Hears n clocks: with the lowest bits of two numbers as TDI and TDO, the lowest first, and with TMS 0, but TMS 1 at
-    /// the last of them if `last` is true. What is kept is lost if the controllers leave their state with TMS 0.
+    /// the last of them if `last` is true.
     pub fn hear_block(&mut self, tdi: u64, tdo: u64, n: u32, last: bool)
         requires some { 1 ≤ n }
         requires most { n ≤ 64 }
         ensures heard { Hears self.old (pulsed (clocks_with (block_inputs tdi n last) (low_bits n tdo))) self.new }
+        ensures fits { HearsIfRoom self.old (pulsed (clocks_with (block_inputs tdi n last) (low_bits n tdo))) self.new }
     {
         if !last {
             self.hear_still(tdi, tdo, n);

@@ -14,7 +14,7 @@ invariant-loop-turn g l =
       ready : CanPlayTurns code l.work;
       open_now : IsOpenCable g.C.Cable l.tap l.cable;
       whole : IsWhole l.out;
-      within : l._turn ≤ l.turns;
+      within : l.turn ≤ l.turns;
       played : PlayedSoFar g.C.Cable g.K.Sink code course.table.now (lengths_of course.base) (λ n. run_of code n l.start first) l.fn.from l.fn.cable l.fn.runs l.fn.out
-          l._turn l.place (state_of course.chosen.now l.work) l.tap l.cable l.runs l.out;
+          l.turn l.place (state_of course.chosen.now l.work) l.tap l.cable l.runs l.out;
     }

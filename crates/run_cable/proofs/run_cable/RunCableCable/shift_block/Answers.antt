@@ -3,7 +3,7 @@ use Rattle.base.specs.Bits.{low_bits}
 use Rattle.base.proofs.NumberBits.{length-low_bits}
 use Rattle.dev_card.specs.Blocks.{block_inputs}
 use Rattle.scan_paths.specs.Cables.{pulsed}
-use Rattle.run_cable.specs.KeptRuns.{Hears}
+use Rattle.run_cable.specs.KeptRuns.{Hears, HearsIfRoom}
 use Rattle.run_cable.proofs.HeardLemmas.{clocks_are, count_of_inputs}
 use Rattle.run_cable.proofs.run_cable.RunCableCable.shift_block.Goals as goal
 
@@ -20,6 +20,8 @@ returns-in-Ok-clause-shifted g c =
           same_runs = refl;
           made = made.made;
           heard = subst (λ ks. Hears c.args.self.now.runs.now (pulsed ks) c.hear_block.new.self) ks c.hear_block.ensures.heard;
+          was_whole = λ e. c.requires.whole;
+          fits = λ e. subst (λ ks. HearsIfRoom c.args.self.now.runs.now (pulsed ks) c.hear_block.new.self) ks c.hear_block.ensures.fits;
         };
         went_in = made.went_in;
         seen = made.seen;
