@@ -14,12 +14,15 @@ ghost use Rattle.stapl_machine.specs.Machines.{play_of};
 ghost use Rattle.scan_accounts.specs.MadeTurns.{MadeTurn, made_play};
 ghost use Rattle.scan_accounts.specs.Accounts.{passages, scans_among};
 ghost use Rattle.scan_accounts.specs.AccountTexts.{turn_lines};
+ghost use Rattle.scan_accounts.specs.Rooms.{most_states, turn_bits, turn_runs};
+ghost use Rattle.run_cable.specs.KeptRuns.{Kept};
+ghost use Rattle.code_plays.specs.CodePlays.{HasEnding};
 ghost use Rattle.account_lines.specs.declared.lines.TurnPlace.{TurnPlace};
-ghost use Rattle.account_plays.specs.AccountedRuns.{turns_text, turns_scans, AreNextCodeTurns, HasStopped};
+ghost use Rattle.account_plays.specs.AccountedRuns.{turns_text, turns_scans, AreNextCodeTurns, AreTold, HaveRoom, HasStopped};
 ghost use Rattle.turn_table.specs.Tables.{IsTurnTable};
 ghost use Rattle.account_meaning.specs.Tables.{TellsScans};
 
-use scan_accounts::laws::a_turn_has_runs_or_lines;
+use scan_accounts::laws::{a_turn_has_runs_or_lines, turns_fit_the_room};
 
 /// The turns of the plays of the code of a program, one after another and all of them, are those of the play of the
 /// program, as it was made: their pieces, whether they scan, the states before them, and their events.
@@ -54,3 +57,24 @@ pub fn the_scans_of_a_code_are_those_of_its_program()
         length turns ≤ n → (length turns ≡ n) ⊎ HasStopped (play_of code chosen (length turns) (chain_reset base far)) →
         turns_scans table ir turns ≡ scans_among ir (passages (made_play program chosen n base far)) }
 {}
+
+/// The table of a program tells each turn of its code, if all plays of the code come to an ending.
+pub fn each_turn_of_a_code_is_told()
+    ensures { (text : List ℕ) (program : List StmtTree) (code : CodeLists) (table : List TurnPlace) (chosen : List ℕ)
+        (base : BaseLengths) (far : FarEnd) → IsProgram text program → IsTurnTable text program table →
+        IsCodeOf (as_played program) code → length code.instrs < 2 ^ 32 →
+        ((n : ℕ) → HasEnding (play_of code chosen n (chain_reset base far))) →
+        AreTold code table (λ n. play_of code chosen n (chain_reset base far)) }
+{}
+
+/// There is room for the runs of each turn of the code of a program, where there is room for the bits of the longest scan
+/// with its base padding and of the longest list of states, and for a run more than this has states.
+pub fn the_turns_of_a_code_fit_the_room()
+    ensures { (text : List ℕ) (program : List StmtTree) (code : CodeLists) (table : List TurnPlace) (chosen : List ℕ)
+        (base : BaseLengths) (far : FarEnd) (kept : Kept) → IsProgram text program → IsTurnTable text program table →
+        IsCodeOf (as_played program) code → length code.instrs < 2 ^ 32 →
+        turn_bits base (most_states program) ≤ kept.room.bits → turn_runs (most_states program) ≤ kept.room.runs →
+        HaveRoom code table kept (λ n. play_of code chosen n (chain_reset base far)) }
+{
+    turns_fit_the_room();
+}
