@@ -1,0 +1,3 @@
+pub mod CodeTurns
+pub mod Sums
+pub mod SourceAccounts
