@@ -1,0 +1,5 @@
+pub mod WordLemmas
+pub mod FileLemmas
+pub mod AnswerLemmas
+pub mod OneAnswer
+pub mod Answered
