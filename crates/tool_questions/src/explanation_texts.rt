@@ -86,6 +86,7 @@ padding, of another program: R padding n: piece n sets a padding, so the program
 differs, of another program: trace differs clock i: at clock i, from 1, TDO is not that of the board. Do this: look for another board, another part, or a digit that was changed.
 BadLine, of another program: R trace n BadLine: line n begins with C and a blank, and is not 1 to 64 digits from 0 to 7. Do this: look for a blank at its end, a carriage return, or a line that was cut.
 quiet, of another program: not quiet ..: a scan has not the length of the registers, or leads through a state of scans; so the play is not the same at each place of a chain. Do this: correct what the line names; section 4 of the guide.
+S, of another program: S p line l DRSCAN n in h out h: in piece p, of line l, n bits went in at TDI, and as many came out at TDO, in hexadecimal, the first bit lowest; WALK is a way through a shift state, and S turns .. says the sums. Do this: look for the first line whose out is not what the part should give, and see --piece p.
 NOTE, a statement: gives a note, which list shows; it does nothing in a play. As in: NOTE \"KEY\" \"TEXT\";
 ACTION, a statement: names what one can play, and its procedures in their order. As in: ACTION A \"TEXT\" = P, Q OPTIONAL;
 PROCEDURE, a statement: begins a procedure, which sees the variables of the blocks after USES. As in: PROCEDURE P USES D;
